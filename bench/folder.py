@@ -1,19 +1,21 @@
 #!/usr/bin/env -S python3 -B
 """Makes a folder of many settled days, for measuring what asks over years.
 
-usage: folder.py FOLDER [--days N] [--accounts N] [--instructions N]
+usage: folder.py FOLDER [--days N] [--accounts N] [--instructions N] [--four-eyes]
 
 The first day is made by `./day init` and `./day close --second`. Each later one is settled by the second answer, which
 asks for the accounts that the day touches alone; all other blocks go on as they are. Its files and its line of the
 journal are written as `close` writes them, but packed less: that takes half a second a day, where `close` looks at
 everything. So `./day audit --second` must find no difference in the folder. The instructions are transfers, some of
 which are refused, surrenders, emissions and additions to trusted lists; nothing waits behind a day. The same arguments
-always give the same days. A folder that is there goes on where it ends.
+always give the same days. A folder that is there goes on where it ends. With --four-eyes `office.ini` names three
+people, of whom one handed in each file, another one approved it and closed the day, and a third one approved that.
 """
 import argparse
 import contextlib
 import datetime
 import gzip
+import itertools
 import random
 import sys
 from collections.abc import Iterable, Iterator
@@ -26,34 +28,47 @@ sys.path[:0] = [str(TOP / "python"), str(TOP / "bench")]
 import days  # noqa: E402
 
 from registry_tools import main as commands  # noqa: E402
-from registry_tools.office import files, folder, handed, journal, settling  # noqa: E402
+from registry_tools.office import files, folder, handed, journal, layout, people, settling  # noqa: E402
 from registry_tools.second import rules  # noqa: E402
 from registry_tools.texts import pending  # noqa: E402
 
-FIRST_DAY, CALENDAR = datetime.date(2025, 1, 2), (datetime.date(2024, 12, 2), datetime.date(2026, 12, 31))
+FIRST_DAY, CALENDAR_BEGIN, DECEMBER = datetime.date(2025, 1, 2), datetime.date(2024, 12, 2), (12, 31)
 ADMINISTRATORS = 901, 902
 # Of so many instructions one is refused, a surrender, emissions, or an addition to a trusted list.
 REFUSED, SURRENDERS, EMISSIONS, ADDITIONS = 12, 10, 14, 50
 NOBODY = "office"
+# Who hands in, closes and approves where two have to; the login that measures may speak for them.
+ANNA, BEN, CARLA = "anna", "ben", "carla"
+PEOPLE = f"""[people]
+{people.system_login()} = Bench: proxy
+{ANNA} = Anna: hand in, change
+{BEN} = Ben: hand in, change, close
+{CARLA} = Carla: hand in, change, close, release
+[four eyes]
+commands = hand-in, change, close
+"""
 # How hard days are packed: less than `close` packs them, in a third of the time.
 LEVEL = 1
 
 
-def working_days() -> Iterator[datetime.date]:
-    """All weekdays of the calendar."""
-    day, last = CALENDAR
-    while day <= last:
-        if day.weekday() < 5:
-            yield day
-        day += datetime.timedelta(1)
+def weekdays(first: datetime.date) -> Iterator[datetime.date]:
+    """All weekdays from a day on."""
+    days_from = (first + datetime.timedelta(place) for place in itertools.count())
+    return (day for day in days_from if day.weekday() < 5)
 
 
-def heading(date: datetime.date, first: int) -> Iterator[str]:
+def calendar_until(last: datetime.date) -> list[datetime.date]:
+    """The working days of a folder: all weekdays up to the end of the year of its last day."""
+    end = datetime.date(last.year, *DECEMBER)
+    return [*itertools.takewhile(lambda day: day <= end, weekdays(CALENDAR_BEGIN))]
+
+
+def heading(date: datetime.date, first: int, calendar: list[datetime.date]) -> Iterator[str]:
     """The rows before the accounts."""
     yield from ("format,1", f"day,{date},{first}", "period,2021,2030", "lags,0,1,2,60")
     yield from (f"surrender,{kind},general" for kind in ("operator", "aircraft"))
     yield from (f"admin,{user}" for user in ADMINISTRATORS)
-    yield from (f"work,{day}" for day in working_days())
+    yield from (f"work,{day}" for day in calendar)
 
 
 def first_accounts(count: int) -> Iterator[str]:
@@ -150,8 +165,9 @@ class Book:
 class Maker:
     """Adds days to a folder."""
 
-    def __init__(self, path: Path, accounts: int, count: int) -> None:
-        self.path, self.accounts, self.count = path, accounts, count
+    def __init__(self, path: Path, accounts: int, count: int, dates: list[datetime.date], four_eyes: bool) -> None:
+        self.path, self.accounts, self.count, self.dates = path, accounts, count, dates
+        self.calendar, self.four_eyes = calendar_until(dates[-1]), four_eyes
         self.pool = ThreadPoolExecutor(4)
 
     def begin(self) -> None:
@@ -159,26 +175,30 @@ class Maker:
         date = FIRST_DAY
         first = self.path.parent / f"{self.path.name}.first.csv"
         accounts, orders = first_accounts(self.accounts), instructions(date, self.accounts, self.count)
-        first.write_bytes(text_of([*heading(date, 1), *accounts, *orders, "end"]))
+        first.write_bytes(text_of([*heading(date, 1, self.calendar), *accounts, *orders, "end"]))
         own = ["--office", str(self.path)]
         for words in ["init", *own[1:], str(first)], ["close", "--second", "--date", str(date), "--yes", *own]:
             if commands.main(words):
                 sys.exit(1)
         first.unlink()
+        if self.four_eyes:
+            with open(self.path / layout.SETTINGS, "a", encoding="utf-8") as settings:
+                settings.write(PEOPLE)
 
-    def go_on(self, dates: list[datetime.date]) -> None:
+    def go_on(self) -> None:
         """The later days, one after another. What is packed meanwhile is written with the journal, ten days at once."""
         office = folder.read_office(self.path)
-        last = office.last()
+        last, known = office.last(), {event.date for event in office.journal.filed()}
+        dates = [date for date in self.dates if date not in known]
         assert last is not None
         number, rows = accounts_of(gzip.decompress(files.bytes_in(office.file(last, "report"))))
         book, begun = Book(rows), list[tuple[datetime.date, int, int, dict[str, Future[bytes]]]]()
         for place, date in enumerate(dates, 1):
             do = text_of(instructions(date, self.accounts, self.count))
-            day = text_of(heading(date, number)) + book.rows() + do + b"end\n"
+            day = text_of(heading(date, number, self.calendar)) + book.rows() + do + b"end\n"
             first = number
-            head = [*heading(date, first), *do.decode().splitlines()]
-            report = book.settle(rules.day_of(row.split(",") for row in head))
+            head = [*heading(date, first, self.calendar), *do.decode().splitlines()]
+            report = book.settle(rules.day_of_fields(row.split(",") for row in head))
             number += self.count
             contents = {"day": day, "report": report, "do": do}
             packed = {key: self.pool.submit(stored, key, own) for key, own in contents.items()}
@@ -196,7 +216,7 @@ class Maker:
         text, line = office.journal.text, last.line
         for date, first, number, packed in begun:
             lies = {key: own.result() for key, own in packed.items()}
-            event = self.filed(office.day_folder(date), line, (date, first, number), lies)
+            event = self.filed(office, line, (date, first, number), lies)
             text, line = f"{text}{event.row()}\n", event.line
         made = pending.Made(begun[-1][0], begun[-1][2])
         files.replace(office.next_folder / handed.WAITS, pending.text_of([], made).encode())
@@ -204,23 +224,28 @@ class Maker:
         files.replace(office.path / "journal.csv", text.encode())
 
     def filed(
-        self, place: Path, before: str, day: tuple[datetime.date, int, int], lies: dict[str, bytes]
+        self, office: folder.Office, before: str, day: tuple[datetime.date, int, int], lies: dict[str, bytes]
     ) -> journal.Event:
         """Writes the files of a day, and answers its line of the journal."""
         date, first, number = day
-        name, at = f"{date}-do.csv", f"{date}T08:00:00Z"
-        part = handed.Part(at, NOBODY, handed.DO, 1, self.count, None, "0001-do.csv", files.sum_of(lies["do"]), name)
+        name, at, place = f"{date}-do.csv", f"{date}T08:00:00Z", office.day_folder(date)
+        by, closer, second = (ANNA, BEN, CARLA) if self.four_eyes else (NOBODY, NOBODY, "")
+        part = handed.Part(
+            at, by, handed.DO, 1, self.count, None, "0001-do.csv", files.sum_of(lies["do"]), name, second and by
+        )
+        approved = [handed.Approved(f"{date}T09:00:00Z", closer, 1, closer)] if second else []
         all_files = {
             **dict.fromkeys(journal.FILES, b""), **lies,
             "waiting": pending.text_of([], pending.Made(date, first)).encode(),
-            "handed": handed.HandedIn(place, before, [part]).text().encode(),
+            "handed": handed.HandedIn(place, before, [part], [], approved).text().encode(),
         }  # fmt: skip
         place.mkdir(exist_ok=True)
         for key, content in all_files.items():
             (place / journal.FILES[key]).write_bytes(content)
         sums = {key: files.sum_of(content) for key, content in all_files.items()}
         closed, engine = f"{date}T17:00:00Z", settling.SECOND_ANSWER.row()
-        return journal.Event(journal.FILED, closed, NOBODY, date, first, number, sums, "", before, engine=engine)
+        event = journal.Event(journal.FILED, closed, closer, date, first, number, sums, "", before, engine=engine)
+        return event._replace(login=closer, approved=second, people=office.people.sum()) if second else event
 
 
 def stored(key: str, content: bytes) -> bytes:
@@ -241,14 +266,14 @@ def main() -> None:
     words.add_argument("--days", type=int, default=500)
     words.add_argument("--accounts", type=int, default=days.MOST_ACCOUNTS)
     words.add_argument("--instructions", type=int, default=1_000)
+    words.add_argument("--four-eyes", action="store_true")
     said = words.parse_args()
-    maker = Maker(said.folder, said.accounts, said.instructions)
-    if not (said.folder / "office.ini").exists():
+    dates = [*itertools.islice(weekdays(FIRST_DAY), said.days)]
+    maker = Maker(said.folder, said.accounts, said.instructions, dates, said.four_eyes)
+    if not (said.folder / layout.SETTINGS).exists():
         maker.begin()
-    known = {event.date for event in folder.read_office(said.folder).journal.filed()}
-    dates = [date for date in working_days() if date >= FIRST_DAY][: said.days]
     with contextlib.suppress(KeyboardInterrupt):
-        maker.go_on([date for date in dates if date not in known])
+        maker.go_on()
 
 
 if __name__ == "__main__":

@@ -152,7 +152,7 @@ def fault_word(text: bytes, fault: str) -> str:
     """The first fault of a text, with the tags of its row and of the row before."""
     number, cause = fault[4:].split(":")
     rows = [[""]]
-    for place, row in enumerate(rules.rows_of(text), 1):
+    for place, row in enumerate(rules.fields_in(text), 1):
         if place in (int(number), int(number) - 1):
             rows.append(row)
         if place == int(number):
@@ -164,8 +164,8 @@ def fault_word(text: bytes, fault: str) -> str:
 
 def log_words(text: bytes, report: str) -> Iterator[str]:
     """The words of the log rows of a day, and of the statuses of the accounts that their acts name."""
-    day = rules.read_day(text)
-    version = next(rules.rows_of(text))[1]
+    day = rules.day_in(text)
+    version = next(rules.fields_in(text))[1]
     statuses = {number: account.status for number, account in day.accounts.items()}
     for asked, line in zip(day.instructions, report.splitlines()):
         fields = line.split(",")

@@ -14,7 +14,8 @@ from collections.abc import Iterator
 from typing import Any
 
 NAME = "chromium"
-MOST_SECONDS = 60
+# So long it may take until it tells something: a loaded machine starts it in a minute.
+MOST_SECONDS = 180
 
 
 def find() -> str | None:

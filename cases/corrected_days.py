@@ -161,7 +161,7 @@ def refused_trials(work: Path, base: Path) -> Iterator[Told]:
         ("no date", 2, "DATE x is not a date", ["x", *wrong]),
         ("a record before it", 2, f"{TUESDAY} has the records 61008 to 61013", [TUESDAY, "--without", "61007"]),
         ("a record behind all", 2, "up to 61017", [TUESDAY, "--without", "61018"]),
-        ("what waited", 2, "it waited since an earlier day", [TUESDAY, "--without", "61008"]),
+        ("what waited", 2, f"; ./day correct {MONDAY} --without 61004 leaves", [TUESDAY, "--without", "61008"]),
         ("a file that is none", 3, "bad.csv:1", [TUESDAY, "--with", str(bad)]),
         ("no file", 3, "none.csv", [TUESDAY, "--with", str(work / "none.csv")]),
         ("what a day has done", 3, "done.csv:1: do row: found one that", [TUESDAY, "--with", str(done)]),

@@ -13,7 +13,7 @@ from harness import Said
 from offices import FIRST, must_do, new_office, told
 
 from registry_tools import main
-from registry_tools.office import audit, folder
+from registry_tools.office import audit, audited, prepared
 from registry_tools.office.close import inside
 
 ROW = "do,2025-04-01,101,102,transfer,1,2,general,{}\n"
@@ -304,19 +304,19 @@ def interrupted_trials(work: Path) -> Iterator[Trial]:
     """An audit ends what an interrupted command began, as any other command does; and of what another one changes
     meanwhile it says so."""
     office, own = new_office(work, "interrupted")
-    with mock.patch.object(folder, "carry_out", side_effect=KeyboardInterrupt):
+    with mock.patch.object(prepared, "put_in_place", side_effect=KeyboardInterrupt):
         status = main.main([*CLOSE, DAY, *own])
     yield "close that is interrupted", None if status == 130 and (office / "prepared").is_dir() else status
     has = [f"{DAY} is filed, and all is in its place now", "days 2, pairs read 2: 0 differences"]
     yield "audit behind it", told(0, has, "audit", *own)
-    look = audit.look_at_files
+    look = audit.look_at_filed_files
 
-    def meanwhile(seen: audit.Audit) -> None:
+    def meanwhile(seen: audited.Audit) -> None:
         must_do([*CLOSE, "2025-04-02", *own])
         look(seen)
 
     has = ["days/2025-04-02: found something that the journal does not name", "LOOK AT THIS: another command changed"]
-    with mock.patch.object(audit, "look_at_files", meanwhile):
+    with mock.patch.object(audit, "look_at_filed_files", meanwhile):
         yield "audit while a day is closed", told(1, has, "audit", *own)
     yield "audit again", told(0, [": 0 differences"], "audit", *own)
 

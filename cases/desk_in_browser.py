@@ -20,7 +20,7 @@ from harness import TOP, differs
 
 WEEK = TOP / "examples" / "week"
 SAVED = TOP / "out" / "desk"
-MOST_SECONDS = 120
+MOST_SECONDS, TIMES = 240, 5
 # The pages that are looked at in windows of several widths, and on paper.
 LOOKED_AT = (
     "/", "/hand-in?act=transfer", "/hand-in?act=distribute", "/next", "/change?account=100377", "/change?of=rules",
@@ -33,13 +33,22 @@ ARRIVED = (
     "document.readyState == 'complete' && document.body && !document.body.dataset.old"
     " && document.querySelector('footer') && !document.body.innerText.includes('At work')"
 )
-OF_KEY = {"Tab": 9, "Enter": 13, " ": 32}
+OF_KEY = {"Tab": 9, "Enter": 13, "ArrowDown": 40}
 
 
 class Server:
     """`./day desk` over a folder. Use it as a context."""
 
     def __init__(self, office: Path, *words: str) -> None:
+        # (between looking for a free port and its use, somebody else may have taken it)
+        for _ in range(TIMES):
+            self.start(office, *words)
+            if self.link:
+                break
+            self.process.wait(MOST_SECONDS)
+
+    def start(self, office: Path, *words: str) -> None:
+        """Starts it at a free port, and reads its link, or nothing if it does not answer there."""
         with socket.socket() as free:
             free.bind(("127.0.0.1", 0))
             port = free.getsockname()[1]
@@ -132,7 +141,7 @@ class Visitor:
         return self.after(f"{found}.click()")
 
     def key(self, key: str) -> None:
-        more: dict[str, Any] = {"text": "\r"} if key == "Enter" else {"text": " "} if key == " " else {}
+        more: dict[str, Any] = {"text": "\r"} if key == "Enter" else {}
         for kind in ("keyDown", "keyUp"):
             own = more if kind == "keyDown" else {}
             self.browser.do("Input.dispatchKeyEvent", type=kind, key=key, windowsVirtualKeyCode=OF_KEY[key], **own)
@@ -185,9 +194,10 @@ def by_keys(ana: Visitor) -> str:
     ana.browser.value("document.body.dataset.old = 'yes'")
     ana.key("Enter")
     ana.arrived()
-    if not ana.browser.value("document.querySelector('main [name=second]').checked"):
-        ana.tab_to("by the second answer alone")
-        ana.key(" ")
+    # (of choices that shut each other out, the key Tab finds the chosen one, and an arrow goes on)
+    ana.tab_to("by ")
+    if not ana.browser.value("document.activeElement.value"):
+        ana.key("ArrowDown")
     ana.tab_to("Your name")
     ana.browser.do("Input.insertText", text="ana")
     ana.tab_to("Yes, close")
@@ -215,7 +225,7 @@ def by_hand(ana: Visitor) -> Iterator[tuple[str, object]]:
     ana.open("/change?account=100377")
     ana.choose("user-5204", "both")
     looked = ana.press("Look at the change")
-    yield "a change side by side", told(looked, "user 5204 approve\tuser 5204 both")
+    yield "a change side by side", told(looked, "user 5204: approve\tuser 5204: propose and approve")
     ana.fill("why", "a letter")
     yield "a change by hand", told(ana.press("Yes, change it"), "handed in for 2025-09-26")
     ana.open("/change?of=rules")
@@ -271,8 +281,10 @@ def shown(ana: Visitor, path: str, width: int, name: str) -> object:
         "[...document.querySelectorAll('main td, main tbody th, main p, main label, main button')]"
         ".filter(it => it.scrollWidth > it.clientWidth + 1 && it.clientWidth > 1).map(it => it.innerText).slice(0, 3)"
     )
+    unseen = own.value("[...document.querySelectorAll('thead:has(a)')].filter(it => it.clientWidth < 20).length")
     faults = DeskPage("<!DOCTYPE html>\n" + str(own.value("document.documentElement.outerHTML"))).faults
     wrong = [f"{needed} points are needed"] if needed > width else []
+    wrong += [f"{unseen} tables can't be sorted by what is seen"] if unseen else []
     return [*wrong, *own.log(), *others, *(f"cut off: {each}" for each in cut), *faults] or None
 
 

@@ -1,6 +1,6 @@
-"""Drawn commands of all thirty, each of which is killed, interrupted or fails at a drawn one of its calls that change
-files. Whatever becomes of it, each thing that it changes is as before or as it would be after, its status says which,
-the same command comes to the same end then, and nothing is left over."""
+"""Drawn commands of all that there are, each of which is killed, interrupted or fails at a drawn one of its calls that
+change files. Whatever becomes of it, each thing that it changes is as before or as it would be after, its status says
+which, the same command comes to the same end then, and nothing is left over."""
 import errno
 import random
 import re
@@ -28,16 +28,27 @@ ORDERS = (
     "proposed,proposer,approver,act,from,to,kind,amount\n"
     "2025-09-25,5101,5102,transfer,100210,300118,general,{amount}\n"
 )
-# The only command that writes two files one after another, each of them whole.
-OF_TWO_FILES = {"next"}
+# The commands that change a folder, so that each of them is drawn over something that it does.
+OF_FOLDERS = (
+    "hand-in", "change", "label", "label by a file", "take-back", "close", "correct", "correct with a file", "approve",
+    "approve a command", "close what waits", "close what was approved", "undo", "release", "mend",
+)  # fmt: skip
+# What writes several files one after another, each of them whole.
+OF_TWO_FILES = {"next", "mend"}
 # When something was made, which says nothing of how it stands.
 TIME = re.compile(rb"[0-9-]{10}T[0-9:]{8}Z")
+# What anna asks for where it waits for another login, and bert approves.
+ASKED = ["close", "--date", "2025-09-23", "--second", "--yes", "--for", "anna"]
+APPROVAL = ["approve", "close", "--date", "2025-09-23", "--for", "bert"]
+# A folder of days of which files of a past day are gone, or other ones.
+BROKEN = "broken"
+LOST, CHANGED = ("report.csv.gz", "work.csv"), "do.csv"
 # It serves until somebody ends it, and changes a folder by the other commands.
 LEFT_OUT = {"desk"}
 
 
 def commands(there: Path) -> dict[str, list[str]]:
-    """A run of each command: on the folder `there`/office, with what it makes in `there`/made."""
+    """A run of each command, or several: on the folder `there`/office, with what it makes in `there`/made."""
     office, made = there / "office", there / "made"
     own, to = ["--office", str(office)], ["--to", str(made / "answer")]
     day, report = str(WEEK / "monday.csv"), str(WEEK / "monday-report.csv")
@@ -49,16 +60,23 @@ def commands(there: Path) -> dict[str, list[str]]:
         "change": ["change", "100210", "--holder", "5503", *WHY, "--yes", *own],
         "changes": ["changes", *own, *to],
         "label": ["label", "account", "100210", "Kiln 1", *WHY, *own],
+        "label by a file": ["label", "--file", str(there / "names.csv"), *WHY, *own],
         "take-back": ["take-back", "1", *WHY, *own],
         "try": ["try", *own],
         "close": ["close", "--date", NEXT_DAY, "--second", "--yes", *own],
         "correct": ["correct", "2025-09-23", "--without", "61010", "--second", "--yes", *WHY, *own],
+        "correct with a file": [
+            "correct", "2025-09-23", "--with", str(there / "more.csv"), "--second", "--yes", *WHY, *own
+        ],
         "approve": ["approve", "1", "--for", "bert", "--office", str(made / "eyes")],
+        "approve a command": [*APPROVAL, "--office", str(made / "asked")],
+        "close what waits": [*ASKED, "--office", str(made / "eyes")],
+        "close what was approved": [*ASKED, "--office", str(made / "approved")],
         "undo": ["undo", LAST, *WHY, *own],
         "release": ["release", LAST, *WHY, "--yes", *own],
         "due": ["due", *own, *to],
         "anchor": ["anchor", "--to", str(made / "anchors"), *own],
-        "mend": ["mend", "2025-09-23", *own],
+        "mend": ["mend", "2025-09-23", "--office", str(made / BROKEN)],
         "audit": ["audit", "--second", *own, *to],
         "find": ["find", "--refused", *own],
         "balance": ["balance", "100210", *own, *to],
@@ -99,6 +117,11 @@ def base_of(work: Path) -> Path:
     rows.write_text("do,2025-09-25,5101,5102,transfer,100210,300118,general,11\n")
     assert Said("hand-in", rows, *own).status in DONE
     with_four_eyes(base / "made" / "eyes")
+    with_four_eyes(base / "made" / "asked", ASKED)
+    with_four_eyes(base / "made" / "approved", ASKED, APPROVAL)
+    break_day(base / "office", base / "made" / BROKEN)
+    (base / "names.csv").write_text("user,5101,Berg\naccount,300118,Broker\n")
+    (base / "more.csv").write_text("do,2025-09-23,5101,5102,transfer,100210,300118,general,7\n")
     (base / "office" / "labels.csv").write_text("holder,5501,Stahl\n")
     (base / "work.csv").write_text("work,2025-10-06\n")
     (base / "orders.csv").write_text(ORDERS.format(amount=12))
@@ -109,14 +132,27 @@ def base_of(work: Path) -> Path:
     return base
 
 
-def with_four_eyes(office: Path) -> None:
-    """A folder in which a change of anna waits for bert, for whom the login of this process may speak."""
+def break_day(whole: Path, broken: Path) -> None:
+    """A copy of a folder, of which files of a past day are lost and changed."""
+    shutil.copytree(whole, broken)
+    place = broken / "days" / "2025-09-23"
+    for name in LOST:
+        (place / name).unlink()
+    (place / CHANGED).write_bytes((place / CHANGED).read_bytes()[:-1])
+
+
+def with_four_eyes(office: Path, *commands_given: list[str]) -> None:
+    """A folder in which a change of anna waits for bert, for whom the login of this process may speak; and behind it
+    these commands."""
     own = ["--office", str(office)]
     must_do(["init", str(office), str(WEEK / "monday.csv")], ["close", "--date", "2025-09-22", "--second", *own])
     with open(office / "office.ini", "a", encoding="utf-8") as settings:
         settings.write(f"[people]\n{people.system_login()} = The desk: proxy\nanna = Anna: all\nbert = Bert: all\n")
         settings.write("[four eyes]\ncommands = change, close\n")
     must_do(["change", "100210", "--holder", "5503", *WHY, "--yes", "--for", "anna", *own])
+    for each in commands_given:
+        # (a command that waits ends with 1)
+        assert Said(*each, *own).status in DONE
 
 
 # How all stands.
@@ -126,12 +162,14 @@ def made_of(path: Path) -> dict[str, object]:
     """What commands have made, by name: the content of files, of a folder of days and of a database what they say."""
     stands: dict[str, object] = {}
     for each in sorted(own for own in path.iterdir() if not own.name.startswith(".")):
-        if (each / "office.ini").exists():
+        if each.name == BROKEN:
+            # (each file is mended by itself; one without its name is of a killed command, and `left_in` looks for it)
+            mended = files_in(each / "days")
+            stands.update({name: mended[name] for name in mended if "/." not in name})
+        elif (each / "office.ini").exists():
             stands[each.name] = state_of(each)
         elif each.is_dir():
-            stands[each.name] = {
-                str(file.relative_to(each)): file.read_bytes() for file in sorted(each.rglob("*")) if file.is_file()
-            }
+            stands[each.name] = files_in(each)
         elif each.suffix == ".sqlite":
             database = sqlite3.connect(each)
             stands[each.name] = [*database.iterdump()]
@@ -139,6 +177,11 @@ def made_of(path: Path) -> dict[str, object]:
         else:
             stands[each.name] = TIME.sub(b"", each.read_bytes())
     return stands
+
+
+def files_in(path: Path) -> dict[str, bytes]:
+    """What each file of a folder has."""
+    return {str(file.relative_to(path)): file.read_bytes() for file in sorted(path.rglob("*")) if file.is_file()}
 
 
 def all_of(there: Path) -> dict[str, object]:
@@ -150,8 +193,10 @@ def left_in(there: Path) -> list[str]:
     """What no command may leave when it has come to its end."""
     names = [path.name for path in (there / "made").iterdir() if path.name.startswith(".")]
     known = {"office.ini", "journal.csv", "days", "next", "lock", "labels.csv", "index.sqlite"}
-    names += [path.name for path in (there / "office").iterdir() if path.name not in known]
-    return names + [path.name for path in (there / "office" / "next").iterdir() if path.name.startswith(".")]
+    for office in (path.parent for path in there.glob("**/office.ini")):
+        names += [path.name for path in office.iterdir() if path.name not in known]
+        names += [str(path) for path in office.glob("**/.*")]
+    return names
 
 
 # The trials.
@@ -172,6 +217,11 @@ class Kills:
         shutil.rmtree(self.there, ignore_errors=True)
         shutil.copytree(self.base, self.there)
 
+    def office_of(self, name: str) -> Path:
+        """The folder of days on which a command works, or else the one beside what it makes."""
+        words = self.words[name]
+        return Path(words[words.index("--office") + 1]) if "--office" in words else self.there / "office"
+
     def run_whole(self, name: str) -> str | None:
         """A command that nobody ends; what is wrong with it, if something is."""
         self.begin()
@@ -189,14 +239,15 @@ class Kills:
         wanted = {KILLED} if end == 0 else {done, FILE} if end > 0 else {done, INTERRUPTED}
         if status not in wanted or "Traceback" in says:
             return f"status {status}: {says}"
-        looked = Said("status", "--office", self.there / "office")
+        office = self.office_of(name)
+        looked = Said("status", "--office", office)
         now = all_of(self.there)
         if looked.status != 0:
             return f"status behind it: {looked}"
         wrong = self.stands(name, status, now, says)
         if wrong is None and now != ended:
             wrong = self.again(name, now)
-        audit = Said("audit", "--office", self.there / "office")
+        audit = Said("audit", "--office", office)
         return wrong or (f"audit behind it: {audit}" if audit.status else None)
 
     def stands(self, name: str, status: int, now: dict[str, object], says: str) -> str | None:
@@ -230,9 +281,11 @@ def kill_trials(runs: Interrupted, work: Path, count: int, seed: int) -> Iterato
     work = work / "kills"
     work.mkdir()
     kills, chance = Kills(runs, work), random.Random(seed)
-    yield "kills: of each command", sorted({*parsers.descriptions()} ^ {*kills.words} ^ LEFT_OUT) or None
+    drawn = {words[0] for words in kills.words.values()}
+    yield "kills: of each command", sorted({*parsers.descriptions()} ^ drawn ^ LEFT_OUT) or None
     for name in kills.words:
         yield f"kills: {name} to its end", kills.run_whole(name)
+    yield "kills: what changes a folder did so", [name for name in OF_FOLDERS if kills.whole[name][2] == kills.begun]
     changing = [name for name, (_, calls, _) in kills.whole.items() if calls]
     for _ in range(count):
         name, end = chance.choice(changing), chance.choice(ENDS)

@@ -18,7 +18,7 @@ from damaged_office import CLOSE, DAY, ROW, Trial, Words, two_days, unchanged
 from harness import TOP, Said, differs
 from offices import FIRST, must_do, new_office, told
 
-from registry_tools.office import files, folder, journal, settling
+from registry_tools.office import files, journal, prepared, settling
 from registry_tools.second import rules
 from registry_tools.texts.day_text import read_day
 from registry_tools.calendars.due_days import due_day_after
@@ -353,7 +353,7 @@ def signalled_trials(work: Path) -> Iterator[Trial]:
         yield f"{words[0]} that is interrupted behind its step", None if status == 0 and has in says else (status, says)
     no_room = OSError(errno.ENOSPC, "No space left on device")
     left = [f"{third} is filed; the next command puts the rest in place: ", f"{third} is settled by the second answer"]
-    with mock.patch.object(folder, "carry_out", side_effect=no_room):
+    with mock.patch.object(prepared, "put_in_place", side_effect=no_room):
         yield "close on a disk that is full behind its step", told(0, left, *CLOSE, third, *own)
     yield "the next command", told(0, [f"{third} is filed, and all is in its place now"], "status", *own)
     yield "audit behind all this", told(0, [": 0 differences"], "audit", *own)

@@ -7,11 +7,13 @@ import shutil
 import sqlite3
 from collections.abc import Callable, Iterator
 from pathlib import Path
+from unittest import mock
 
 from damaged_office import Trial, Words, unchanged
-from harness import TOP, Said
+from harness import TOP, Said, differs
 from offices import must_do
 
+from registry_tools.office import past
 from registry_tools.office.close import inside
 
 WEEK = TOP / "examples" / "week"
@@ -36,6 +38,7 @@ def indexed_trials(work: Path) -> Iterator[Trial]:
     office = week(work)
     own = ["--office", str(office)]
     yield from equal_trials(work, office, "an index that every close has kept up")
+    yield from unread_trials(work, office)
     for what, spoil in SPOILED.items():
         spoil(office)
         yield from equal_trials(work, office, what)
@@ -131,6 +134,19 @@ SPOILED: dict[str, Callable[[Path], object]] = {
     "an index that lacks days": lambda office: spoiled(office, "DELETE FROM filed WHERE date > '2025-09-23'"),
     "an index of another journal": lambda office: spoiled(office, "UPDATE filed SET line = 'x' WHERE rowid = 3"),
 }  # fmt: skip
+
+
+def unread_trials(work: Path, office: Path) -> Iterator[Trial]:
+    """With an index up to the journal nothing unpacks a day but the last one, so that time and memory are those of a
+    day, however many there are."""
+    asked: list[tuple[Words, int]] = [
+        (["balance", 200045, "--on", "2025-09-22"], 0), (["find", "--refused"], 0), (["history", 100377], 0),
+        (["month", work / "unread.html"], 1), (["send", work / "unread", "--from", "2025-09-22"], 1),
+    ]  # fmt: skip
+    for words, days in asked:
+        with mock.patch.object(past, "read", wraps=past.read) as read:
+            said = Said(*words, "--office", office)
+        yield f"{words[0]} unpacks {days} days", differs(read.call_count, days) if said.status == 0 else said
 
 
 def changed_trials(office: Path, own: list[str]) -> Iterator[Trial]:

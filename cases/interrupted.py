@@ -12,7 +12,7 @@ from pathlib import Path
 from typing import NoReturn
 
 from registry_tools import main
-from registry_tools.office import folder, handed, journal
+from registry_tools.office import folder, handed, handed_journal, journal
 from registry_tools.office.layout import LABELS
 
 KILLED, FELL = 137, 70
@@ -46,14 +46,14 @@ def state_of(path: Path) -> object:
 
 
 def parts_of(there: handed.HandedIn) -> object:
-    return [(part.kind, part.start, part.count, part.day, part.name, part.sources) for part in there.parts], [
+    return [(part.kind, part.start, part.count, part.earliest, part.name, part.sources) for part in there.parts], [
         (taken.place, taken.why) for taken in there.taken
     ]
 
 
 def day_of(office: folder.Office, event: journal.Event) -> object:
     path = office.file(event, "handed")
-    filed = handed.from_text(path.parent, path, path.read_bytes())
+    filed = handed_journal.read_journal(path)
     return parts_of(filed), {key: office.file(event, key).read_bytes() for key in journal.FILES if key != "handed"}
 
 

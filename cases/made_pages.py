@@ -116,7 +116,7 @@ def acts_of(made: Made) -> None:
 
 def totals_of(made: Made) -> None:
     """The totals are those of both texts, and add up."""
-    before = [row.split(",")[2:] for row in rules.totals(rules.read_day(made.text).accounts.values())]
+    before = [row.split(",")[2:] for row in rules.totals(rules.day_in(made.text).accounts.values())]
     after = [row.split(",")[2:] for row in made.answers["totals"].splitlines()[:2]]
     table = {
         row[0]: [int(each.replace(",", "")) for each in row[1:]]

@@ -8,7 +8,8 @@ import unicodedata
 import zlib
 
 OBJECT = re.compile(rb"(?:^|\n)([0-9]+) 0 obj\s(.*?)\sendobj", re.DOTALL)
-STREAM = re.compile(rb"stream\r?\n(.*?)\r?\nendstream", re.DOTALL)
+# (what is packed may end with a line end of its own)
+STREAM = re.compile(rb"stream\r?\n(.*?)\nendstream", re.DOTALL)
 FONT = re.compile(rb"/(F[0-9]+) ([0-9]+) 0 R")
 SHOWN = re.compile(rb"/(F[0-9]+) [0-9.]+ Tf|<([0-9A-Fa-f]+)> Tj|\[(.*?)\] TJ|(BT)|(ET)", re.DOTALL)
 HEX = re.compile(rb"<([0-9A-Fa-f]+)>")
@@ -27,7 +28,7 @@ def stream_of(body: bytes) -> bytes:
     match = STREAM.search(body)
     if match is None:
         return b""
-    return zlib.decompress(match[1]) if b"/FlateDecode" in body else match[1]
+    return zlib.decompressobj().decompress(match[1]) if b"/FlateDecode" in body else match[1]
 
 
 def number_behind(name: bytes, body: bytes) -> int | None:

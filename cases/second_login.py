@@ -16,7 +16,7 @@ from damaged_office import unchanged
 from harness import TOP, LeftOut, Said, differs
 from offices import must_do, told
 
-from registry_tools.office import files, folder, handed, journal, people
+from registry_tools.office import files, folder, handed, handed_journal, journal, people
 
 WEEK, RULES = TOP / "examples" / "week", TOP / "tools" / "rules.py"
 MONDAY, TUESDAY, WEDNESDAY = (f"2025-09-{day}" for day in (22, 23, 24))
@@ -95,6 +95,11 @@ def settings_trials(work: Path) -> Iterator[Told]:
         for words in (["status"], ["close", "--date", TUESDAY]):
             yield f"{lines!r}: {words[0]}", unchanged(office, 3, ["office.ini", has], *words, *own)
         shutil.rmtree(office)
+    office, own = settled(work, "alone", "close, release", {"eva": "Eva: close", "finn": "Finn: close, release"})
+    alone = ["LOOK AT THIS: release waits for a second one, and office.ini names fewer than two who may give it"]
+    yield "what one person alone may do", told(0, alone, "status", *own)
+    said = Said("status", *own)
+    yield "what two may do", said if "close waits" in str(said) else None
 
 
 def login_trials(work: Path) -> Iterator[Told]:
@@ -109,7 +114,7 @@ def login_trials(work: Path) -> Iterator[Told]:
     yield "the login of each line", differs({event.login for event in there.events}, {login})
     yield "the names that were given", differs([event.who for event in there.events[1:]], ["eve"] * 4)
     path = office / "days" / TUESDAY / "handed-in.csv"
-    filed = handed.from_text(path.parent, path, path.read_bytes())
+    filed = handed_journal.read_journal(path)
     yield "of what was handed in", differs([(part.who, part.login) for part in filed.parts], [("Eve", login)])
     yield "status tells it", told(0, [f"filed by eve, login {login} at "], "status", *own)
     yield "a row for programs", told(0, [f"login,{TUESDAY},,,eve,", f",{login}"], "status", "--csv", *own)
@@ -220,6 +225,10 @@ def change_trials(work: Path) -> Iterator[Told]:
     yield "audit", told(0, ["0 differences"], "audit", "--second", *kept_own)
     must_do(["undo", TUESDAY, *WHY, *of("eva"), *kept_own])
     yield "undo takes approvals back, too", told(0, ["places 1 to 2, change by"], "approve", *kept_own)
+    must_do(["take-back", "1-2", *WHY, *of("anna"), *kept_own])
+    yield "nobody approves what was taken back", told(0, ["nothing waits for another login"], "approve", *kept_own)
+    said = Said("close", "--date", TUESDAY, *of("eva"), *kept_own)
+    yield "nor does a close wait for it", None if said.status == 0 and "LOOK AT THIS" not in str(said) else said
     yield from whole_account_trials(work)
 
 

@@ -49,19 +49,20 @@ def asked(*words: str | Path) -> str:
     return subprocess.run(words, stdin=subprocess.DEVNULL, capture_output=True, text=True, check=True).stdout.strip()
 
 
-def libc_of(*paths: Path) -> str:
-    """The C library that these files ask for. (A script asks for none.)"""
-    said = "".join(asked("objdump", "-T", path) for path in paths if path.read_bytes()[:4] == b"\x7fELF")
+def libraries_of(path: Path) -> str:
+    """The libraries that a file asks for, by their packages. (A script asks for none.)"""
+    is_binary = path.read_bytes()[:4] == b"\x7fELF"
+    said, wanted = (asked("objdump", words, path) for words in ("-T", "-p")) if is_binary else ("", "")
     found = [tuple(map(int, own.split("."))) for own in re.findall(r"GLIBC_([0-9]+[.][0-9]+)", said)]
     major, minor = max(found, default=(2, 34))
-    return f"libc6 (>= {major}.{minor})"
+    return f"libc6 (>= {major}.{minor})" + (", libgcc-s1" if "libgcc_s.so.1" in wanted else "")
 
 
 def packages(archive: Path, full: str) -> Iterator[Package]:
-    libc, library = libc_of(archive / "bin/registry"), libc_of(archive / "lib/libregistry.so.1")
+    program, library = (libraries_of(archive / name) for name in ("bin/registry", "lib/libregistry.so.1"))
     same = f"libregistry1 (= {full})"
     yield Package(
-        "registry", "science", f"{libc}, python3 (>= 3.10)", "settlement engine of an emission allowance registry",
+        "registry", "science", f"{program}, python3 (>= 3.10)", "settlement engine of an emission allowance registry",
         ENGINE + " .\n This package has the program registry, and registry-day, the office round it.\n",
     )  # fmt: skip
     yield Package(
@@ -130,6 +131,7 @@ class Tree:
         for name in ("RULES.md", "FORMATS.md", "examples"):
             self.put(f"share/doc/registry/{name}", f"usr/share/doc/registry/{name}")
         self.put("MANIFEST", "usr/share/doc/registry/MANIFEST")
+        self.write("usr/share/doc/registry/README.Debian", README)
         overrides = "registry: unstripped-binary-or-object [usr/bin/registry]\n"
         # (the program is the file that was built behind its proof, byte for byte)
         self.write("usr/share/lintian/overrides/registry", overrides)
@@ -195,6 +197,21 @@ Files: *
 Copyright: the owner of registry
 License: none-yet
  The owner has not chosen a licence yet.
+"""
+README = """\
+registry for Debian
+
+A first day, from a folder of your own:
+
+  cp -r /usr/share/doc/registry/examples/week .
+  registry settle < week/monday.csv                             # settles a day
+  registry-day init office week/monday.csv                      # a folder that remembers its days
+  registry-day close --date 2025-09-22 --office office          # settles and files it
+  registry-day page --day 2025-09-22 --office office pages      # its pages, for a browser
+
+MANIFEST beside this file says what is proved, by which kit, and at which
+commit. registry(1) and registry-day(1) are the manuals, registry-day-text(5)
+tells the texts. For the desk: apt install python3-flask python3-waitress.
 """
 RULES_PAGE = """\
 .TH REGISTRY\\-RULES 1 "" "registry" "The second answer"

@@ -5,7 +5,7 @@ from collections.abc import Iterator
 from pathlib import Path
 
 import package  # noqa: F401
-from registry_tools.man import escaped
+from registry_tools.man import as_roff
 
 PROTOTYPE = re.compile(r"^(?:struct registry_answer|uint32_t|const char \*)\s*registry_\w+\([^;]*\);", re.MULTILINE)
 # What of docs/FORMATS.md is about the text, and what about commands.
@@ -16,17 +16,17 @@ CELLS = re.compile(r"(?<!\\)\|")
 
 def head(name: str, part: int, version: str, what: str, about: str) -> str:
     """The first lines of a page."""
-    title = f'.TH {escaped(name).upper()} {part} "" "registry {version}" "{about}"'
-    return f"{title}\n.SH NAME\n{escaped(name)} \\- {what}\n"
+    title = f'.TH {as_roff(name).upper()} {part} "" "registry {version}" "{about}"'
+    return f"{title}\n.SH NAME\n{as_roff(name)} \\- {what}\n"
 
 
 def of_program(helped: str, version: str) -> str:
     """registry(1), from the help that the program writes."""
     uses = ["settle [--workers N]", "plan", "figures", "totals", "statement ACCOUNT"]
-    lines = [f".B registry\n{escaped(use)} < DAY > TEXT\n.br" for use in uses]
+    lines = [f".B registry\n{as_roff(use)} < DAY > TEXT\n.br" for use in uses]
     return (
         head("registry", 1, version, "settles a day of an allowance registry", "The settlement engine")
-        + ".SH SYNOPSIS\n" + "\n".join(lines) + f"\n.SH DESCRIPTION\n.nf\n{escaped(helped.rstrip())}\n.fi\n"
+        + ".SH SYNOPSIS\n" + "\n".join(lines) + f"\n.SH DESCRIPTION\n.nf\n{as_roff(helped.rstrip())}\n.fi\n"
         + ".SH SEE ALSO\n.BR registry\\-day (1),\n.BR registry (3),\n.BR registry\\-day\\-text (5)\n"
     )  # fmt: skip
 
@@ -38,10 +38,10 @@ def of_library(header: str, version: str) -> str:
     body = header[header.index("#define REGISTRY_VERSION") - 100 :].split("*/", 1)[1]
     return (
         head("registry", 3, version, "the settlement engine as a library", "The settlement engine")
-        + f".SH SYNOPSIS\n.nf\n.B #include <registry.h>\n\n{escaped(calls)}\n\n"
+        + f".SH SYNOPSIS\n.nf\n.B #include <registry.h>\n\n{as_roff(calls)}\n\n"
         + "Link with \\-lregistry, as pkg\\-config \\-\\-libs registry says.\n.fi\n"
-        + f".SH DESCRIPTION\n.nf\n{escaped(comment.strip())}\n.fi\n"
-        + f".SH DECLARATIONS\n.nf\n{escaped(body.strip())}\n.fi\n"
+        + f".SH DESCRIPTION\n.nf\n{as_roff(comment.strip())}\n.fi\n"
+        + f".SH DECLARATIONS\n.nf\n{as_roff(body.strip())}\n.fi\n"
         + ".SH SEE ALSO\n.BR registry (1),\n.BR registry\\-day\\-text (5)\n"
     )  # fmt: skip
 
@@ -55,16 +55,16 @@ def of_text(document: str, version: str) -> str:
     rows = rows[: rows.index("end") + 1]
     what = "a day of an allowance registry, and what is written of it"
     parts = [head("registry-day-text", 5, version, what, "Texts")]
-    parts.append(".SH SYNOPSIS\n.nf\n" + escaped("\n".join(rows)) + "\n.fi\n")
+    parts.append(".SH SYNOPSIS\n.nf\n" + as_roff("\n".join(rows)) + "\n.fi\n")
     for name in OF_TEXT:
-        parts += [f".SH {escaped(name.upper())}\n", *lines_of(named[name].strip().split("\n"))]
+        parts += [f".SH {as_roff(name.upper())}\n", *lines_of(named[name].strip().split("\n"))]
     return "".join([*parts, ".SH SEE ALSO\n.BR registry (1),\n.BR registry\\-day (1)\n"])
 
 
 def plain(words: str) -> str:
     """A line of Markdown with its code and its stressed words in bold."""
     told = INLINE.sub(lambda found: f"\\fB{found[1] or found[3]}\\fP" if found[2] is None else found[2], words)
-    text = escaped(told).replace("\\efB", "\\fB").replace("\\efP", "\\fP")
+    text = as_roff(told).replace("\\efB", "\\fB").replace("\\efP", "\\fP")
     return INLINE.sub(r"\1\2\3", text)
 
 
@@ -76,7 +76,7 @@ def lines_of(lines: list[str]) -> Iterator[str]:
             yield ".fi\n.RE\n" if is_code else ".RS\n.nf\n"
             is_code = not is_code
         elif is_code:
-            yield f"{escaped(line)}\n"
+            yield f"{as_roff(line)}\n"
         elif line.startswith("### "):
             yield f".SS {plain(line[4:])}\n"
         elif line.startswith("|"):

@@ -17,6 +17,7 @@ from collections.abc import Iterator
 from pathlib import Path
 
 import build_package
+import jars
 import manual
 import package  # noqa: F401
 import versions
@@ -34,9 +35,13 @@ PYTHON = TOP / "examples/python/src/registry"
 DOCUMENTS = ("CHANGELOG.md", "docs/RULES.md", "docs/FORMATS.md")
 # What is read of examples/.
 WEEK = ("week", "first-transfer.csv", "morning-batch.csv")
-# The sources of the Rust crate and of the Java binding, without what a build leaves.
-SOURCES = {"src/rust": "examples/rust", "src/java": "examples/java", "src/python": "examples/python"}
-LEFT_OUT = shutil.ignore_patterns("target", "out", "__pycache__", "*.class", "*.so", "*.jar", "*.pyc")
+# The sources of the bindings, without what a build leaves, and without tests, which read cases.
+SOURCES = {f"src/{name}": f"examples/{name}" for name in ("c", "java", "python", "rust")}
+LEFT_OUT = shutil.ignore_patterns("target", "out", "tests", "__pycache__", "*.class", "*.so", "*.jar", "*.pyc")
+# The day texts that the examples among these read.
+READ = ("first-transfer.csv", "morning-batch.csv", "compliance-year.csv", "wrong-date.csv")
+# Where else the library is.
+AGAIN = "The wheel of the engine has lib/libregistry.so.1, too, and the jar links lib/libregistry.a."
 # What is in the archive and was only tested.
 ONLY_TESTED = "registry-day, registry-rules, the Python packages, the Rust crate, the Java binding, pages, completion"
 
@@ -102,15 +107,22 @@ def put_documents(folder: Path) -> None:
 
 
 def put_sources(folder: Path) -> None:
-    """Wheels for pip, and the sources of the bindings."""
+    """Wheels for pip, the jar where there is a JDK, and the sources of the bindings."""
     for target, source in SOURCES.items():
         shutil.copytree(TOP / source, folder / target, ignore=LEFT_OUT)
+    for name in READ:
+        copy(TOP / "examples" / name, folder / "src" / name)
     made = folder / "python"
     made.mkdir()
     build_package.build_wheel(str(made))
     with tempfile.TemporaryDirectory() as place:
         put_python(Path(place), LIBRARY / "lib/libregistry.so.1", LIBRARY / "lib/registry.source")
         build_registry.wheel_of(Path(place), made)
+    jdk = jars.folder_of_jdk()
+    if jdk is None:
+        print("release: there is no javac with the headers of its JDK, so the archive has no jar", file=sys.stderr)
+    else:
+        jars.make(LIBRARY, folder / "share/java", jdk)
 
 
 def put_python(folder: Path, library: Path, source: Path) -> None:
@@ -159,7 +171,7 @@ def manifest(folder: Path, version: str, platform: str) -> str:
             f"  {path}", f"    source: {told['source']}", f"    proved and built with {told['kit']}",
             f"    crates: {crates(crate)}", f"    sha256: {sum_of(folder / path)}",
         ]  # fmt: skip
-    return "\n".join([*lines, "", f"Only tested: {ONLY_TESTED}.", ""])
+    return "\n".join([*lines, "", AGAIN, "", f"Only tested: {ONLY_TESTED}.", ""])
 
 
 def sums(folder: Path) -> Iterator[str]:

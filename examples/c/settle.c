@@ -17,8 +17,6 @@ struct bytes {
   size_t length;
 };
 
-static const char *const causes[] = {"", "end", "tag", "fields", "number", "date", "word", "version", "limit", "order"};
-
 static int fail(int status, const char *why) {
   fprintf(stderr, "settle: %s\n", why);
   return status;
@@ -58,6 +56,14 @@ static struct registry_answer settle(struct bytes day, struct bytes *report) {
   }
 }
 
+/* Says the first fault of a day text as the program does. */
+static int tell_fault(struct registry_answer answer) {
+  char word[16];
+  int length = (int)registry_cause_word(answer.cause, word, sizeof word).length;
+  fprintf(stderr, "row %llu: %.*s\n", (unsigned long long)answer.row, length, word);
+  return 3;
+}
+
 /* Says what became of a day, and answers the exit status. */
 static int tell(struct registry_answer answer, struct bytes report) {
   switch (answer.status) {
@@ -66,8 +72,7 @@ static int tell(struct registry_answer answer, struct bytes report) {
         return fail(5, "the report cannot be written");
       return 0;
     case REGISTRY_FAULT:
-      fprintf(stderr, "row %llu: %s\n", (unsigned long long)answer.row, causes[answer.cause]);
-      return 3;
+      return tell_fault(answer);
     default:
       return fail(4, "out of memory");
   }

@@ -6,21 +6,31 @@
 
 typedef struct registry_answer (*command)(const char *, size_t, char *, size_t);
 
-static const command commands[] = {registry_settle, registry_try, registry_plan, registry_figures, registry_totals};
-enum { STATEMENT = sizeof commands / sizeof *commands };
+static const command commands[] = {registry_settle,  registry_try,    registry_plan,
+                                   registry_figures, registry_totals, registry_statements};
+enum { STATEMENT = sizeof commands / sizeof *commands, NEXT };
+/* A date is YYYY-MM-DD. */
+enum { DATE_LENGTH = 10 };
 
-static struct registry_answer ask(jint number, const char *day, size_t length, jint account, char *room, size_t size) {
-  if (number == STATEMENT) return registry_statement(day, length, (uint32_t)account, room, size);
-  return commands[number](day, length, room, size);
+/* What is asked: a command, of a statement with an account, of the next day with its date. */
+struct question {
+  jint number, account;
+  char date[DATE_LENGTH];
+};
+
+static struct registry_answer ask(struct question asked, const char *day, size_t length, char *room, size_t size) {
+  if (asked.number == NEXT) return registry_next(day, length, asked.date, DATE_LENGTH, room, size);
+  if (asked.number == STATEMENT) return registry_statement(day, length, (uint32_t)asked.account, room, size);
+  return commands[asked.number](day, length, room, size);
 }
 
 /* Asks with a room, and if that is too small, once more with one of the right size. The caller frees the room. */
-static struct registry_answer ask_with_room(jint number, const char *day, size_t length, jint account, char **room) {
+static struct registry_answer ask_with_room(struct question asked, const char *day, size_t length, char **room) {
   size_t size = 2 * length + 4096;
   for (;;) {
     *room = malloc(size);
     if (!*room) return (struct registry_answer){REGISTRY_NO_MEMORY, 0, 0, 0};
-    struct registry_answer answer = ask(number, day, length, account, *room, size);
+    struct registry_answer answer = ask(asked, day, length, *room, size);
     if (answer.status != REGISTRY_DONE || answer.length <= size) return answer;
     free(*room);
     size = answer.length;
@@ -39,14 +49,16 @@ static jbyteArray text_of(JNIEnv *env, struct registry_answer *answer, const cha
 }
 
 JNIEXPORT jbyteArray JNICALL Java_registry_Registry_call(JNIEnv *env, jclass self, jint number, jbyteArray bytes,
-                                                         jint account, jlongArray told) {
+                                                         jint account, jbyteArray date, jlongArray told) {
   (void)self;
+  struct question asked = {number, account, {0}};
+  (*env)->GetByteArrayRegion(env, date, 0, DATE_LENGTH, (jbyte *)asked.date);
   jsize length = (*env)->GetArrayLength(env, bytes);
   char *day = malloc(length ? (size_t)length : 1), *room = NULL;
   struct registry_answer answer = {REGISTRY_NO_MEMORY, 0, 0, 0};
   if (day) {
     (*env)->GetByteArrayRegion(env, bytes, 0, length, (jbyte *)day);
-    answer = ask_with_room(number, day, (size_t)length, account, &room);
+    answer = ask_with_room(asked, day, (size_t)length, &room);
   }
   jbyteArray text = text_of(env, &answer, room);
   free(room);

@@ -1,15 +1,37 @@
-//! Links the static library that `tools/library` has built into the folder that REGISTRY_FOLDER names.
+//! Links the static library in the folder that REGISTRY_FOLDER names: one that `tools/library` has made, or an archive. A
+//! relative folder is looked for from where cargo was started, then from this crate. Without it, the crate takes the
+//! archive in which it lies.
 
-use std::{env, path::PathBuf};
+use std::env;
+use std::path::PathBuf;
+use std::process;
+
+const LIBRARY: &str = "lib/libregistry.a";
+
+/// The folders that may have the library, in the order in which they are asked.
+fn candidates() -> Vec<PathBuf> {
+    let own = PathBuf::from(env::var_os("CARGO_MANIFEST_DIR").expect("cargo says where the crate is"));
+    let Some(named) = env::var_os("REGISTRY_FOLDER") else {
+        return vec![own.join("../..")];
+    };
+    // (cargo runs this in the folder of the crate, and leaves PWD as the shell has set it)
+    let from = [env::var_os("PWD").map(PathBuf::from), Some(own)];
+    from.into_iter().flatten().map(|folder| folder.join(&named)).collect()
+}
 
 fn main() {
     println!("cargo:rerun-if-env-changed=REGISTRY_FOLDER");
-    let folder = env::var_os("REGISTRY_FOLDER").map(PathBuf::from);
-    let Some(folder) = folder else {
-        panic!("REGISTRY_FOLDER must name the folder that tools/library made: it has lib/libregistry.a");
+    println!("cargo:rerun-if-env-changed=PWD");
+    let folders = candidates();
+    let found = folders.iter().find_map(|folder| folder.join(LIBRARY).canonicalize().ok());
+    let Some(library) = found else {
+        eprintln!(
+            "REGISTRY_FOLDER must name a folder that tools/library made, or an archive; these have no {LIBRARY}:"
+        );
+        folders.iter().for_each(|folder| eprintln!("  {}", folder.display()));
+        process::exit(1);
     };
-    let lib = folder.join("lib");
-    println!("cargo:rerun-if-changed={}", lib.join("libregistry.a").display());
-    println!("cargo:rustc-link-search=native={}", lib.display());
+    println!("cargo:rerun-if-changed={}", library.display());
+    println!("cargo:rustc-link-search=native={}", library.with_file_name("").display());
     println!("cargo:rustc-link-lib=static=registry");
 }

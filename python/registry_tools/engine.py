@@ -87,11 +87,11 @@ class Library:
 
     def log(self, day: bytes) -> list[str]:
         """The log rows of a day. Raises NotSettled."""
-        return rows_of(self.asked("attempt", day))
+        return rows_written(self.asked("attempt", day))
 
     def figures(self, day: bytes) -> list[str]:
         """The figures that are determined after a day, as rows, and the row `end`. Raises NotSettled."""
-        return rows_of(self.asked("figures", day))
+        return rows_written(self.asked("figures", day))
 
     def asked(self, command: str, day: bytes) -> bytes:
         """The text that a command of the library writes of a day. Raises NotSettled."""
@@ -101,7 +101,7 @@ class Library:
             raise NotSettled(f"{self.name}: {fault}") from None
 
 
-def rows_of(text: bytes) -> list[str]:
+def rows_written(text: bytes) -> list[str]:
     """The rows of a text that the program wrote."""
     return text.decode("ascii").split("\n")[:-1]
 

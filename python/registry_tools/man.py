@@ -22,7 +22,7 @@ def add_words(parser: argparse.ArgumentParser) -> None:
     parser.add_argument("of", choices=(DAY, RUN), nargs="?", default=DAY, help="whose page; without it, that of ./day")
 
 
-def escaped(text: str) -> str:
+def as_roff(text: str) -> str:
     """A text in which no letter means something to man."""
     lines = text.replace("\\", "\\e").replace("-", "\\-").split("\n")
     return "\n".join(f"\\&{line}" if line.startswith((".", "'")) else line for line in lines)
@@ -31,16 +31,16 @@ def escaped(text: str) -> str:
 def page_of_day() -> Iterator[str]:
     """The page of the commands, by the name under which they were started."""
     name = streams.names["./day"]
-    plain = escaped(name.removeprefix("./"))
+    plain = as_roff(name.removeprefix("./"))
     yield f'.TH {plain.upper()} 1 "" "registry {tables.VERSION}" "The office round the program"'
     yield f".SH NAME\n{plain} \\- the office round a settlement program"
-    yield f".SH SYNOPSIS\n.B {escaped(name)}\n.I COMMAND\n.RI [ words ]"
+    yield f".SH SYNOPSIS\n.B {as_roff(name)}\n.I COMMAND\n.RI [ words ]"
     yield ".SH COMMANDS"
     for name, what in parsers.descriptions().items():
-        yield f".TP\n.B {escaped(name)}\n{escaped(what)}"
+        yield f".TP\n.B {as_roff(name)}\n{as_roff(what)}"
     for name, parser in parsers.all_of_day().items():
-        yield f".SH {escaped(name.upper())}\n.nf\n{escaped(parser.format_help().rstrip())}\n.fi"
-    yield ".SH EXIT STATUS\n.nf\n" + escaped(parsers.STATUSES) + "\n.fi"
+        yield f".SH {as_roff(name.upper())}\n.nf\n{as_roff(parser.format_help().rstrip())}\n.fi"
+    yield ".SH EXIT STATUS\n.nf\n" + as_roff(parsers.STATUSES) + "\n.fi"
     if name != "./day":
         yield ".SH SEE ALSO\n.BR registry (1),\n.BR registry\\-day\\-text (5)"
 
@@ -53,9 +53,9 @@ def page_of_run() -> Iterator[str]:
     lines = SCRIPT.read_text(encoding="utf-8").splitlines()
     own = itertools.takewhile(lambda line: line.startswith("#"), lines[1:])
     text = "\n".join(line.removeprefix("#").removeprefix(" ") for line in own)
-    yield f".SH DESCRIPTION\n.nf\n{escaped(text)}\n.fi"
+    yield f".SH DESCRIPTION\n.nf\n{as_roff(text)}\n.fi"
     for name, text in parsers.helps_of_run().items():
-        yield f".SH {escaped(name.upper() or 'WORDS')}\n.nf\n{escaped(text.rstrip())}\n.fi"
+        yield f".SH {as_roff(name.upper() or 'WORDS')}\n.nf\n{as_roff(text.rstrip())}\n.fi"
 
 
 def run(said: argparse.Namespace) -> int:

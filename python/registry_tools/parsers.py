@@ -1,9 +1,15 @@
 """The parsers of all commands of ./day, and the words of ./run: of them come the completion of words and the manual
 page."""
 import argparse
+from pathlib import Path
 
-from registry_tools import words as program_words
-
+# Where the help of the program and of its commands is stored.
+STORED = Path(__file__).resolve().parents[2] / "cases" / "program"
+# The commands of the program, and the long options of each.
+OF_PROGRAM = {
+    "settle": ["--workers", "--help"], "plan": ["--help"], "statement": ["--help"], "figures": ["--help"],
+    "totals": ["--help"], "help": ["--help"],
+}  # fmt: skip
 STATUSES = (
     "0 it is as it has to be\n1 something was found\n2 the words do not fit\n3 a file is not what it must be\n"
     "5 standard output did not take all, or standard input is a folder\n130 somebody interrupted it"
@@ -38,10 +44,8 @@ def options_of_day() -> dict[str, list[str]]:
 
 
 def options_of_program() -> dict[str, list[str]]:
-    """The options of each command of the program, by the reader of its words."""
-    options = program_words.LONG_OPTIONS
-    of = {name: [f"--{option}" for option in options.get(name, ["help"])] for name in program_words.COMMANDS}
-    return {**of, "--version": []}
+    """The options of each command of the program."""
+    return {**OF_PROGRAM, "--version": []}
 
 
 def options_of_run() -> dict[str, list[str]]:
@@ -51,5 +55,5 @@ def options_of_run() -> dict[str, list[str]]:
 
 def helps_of_run() -> dict[str, str]:
     """The help of the program, and that of each of its commands, by its name."""
-    own = {"": program_words.help_of().text}
-    return own | {name: program_words.help_of(name).text for name in program_words.COMMANDS if name != "help"}
+    files = {"": "help", **{name: f"help-of-{name}" for name in OF_PROGRAM if name != "help"}}
+    return {name: (STORED / f"{file}.stdout").read_text(encoding="utf-8") for name, file in files.items()}

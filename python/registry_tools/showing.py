@@ -70,13 +70,11 @@ def as_table(columns: Sequence[str], rows: Sequence[Sequence[Cell]], numbers: Se
          for name, own in zip(columns, row)]
         for row in rows
     ]
-    return "\n".join([*in_words.table([*columns], shown, numbers), ""])
+    return "\n".join([*in_words.table_lines([*columns], shown, numbers), ""])
 
 
 # Numbers that name something: they are not grouped.
-NAMES = {
-    "record", "account", "year", "user", "code", "proposer", "approver", "from", "to", "place", "line", "number",
-}  # fmt: skip
+NAMES = {"record", "account", "year", "user", "code", "proposer", "approver", "from", "to", "place", "line", "number"}
 
 
 def fault_row(fault: FileFault | None) -> list[Cell]:

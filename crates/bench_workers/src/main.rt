@@ -5,7 +5,7 @@
 //! `place` the same on the book's own accounts, `plan` makes the plan, `order` runs the instructions in batch order on
 //! values of their own, `schedule` by a schedule of four workers, `levels` settles level by level, `stealing` by
 //! workers that steal, `regions` by workers that own regions of the book. `lanes` writes which places each worker that
-//! steals ran, in order.
+//! owns regions ran, in order.
 //!
 //! `orders` runs the instructions in each order that a further word lists, such as `2,1,3`, and writes a line for each:
 //! `same` if the settled day is that of `plain`, or the fault. A word such as `4:17` stands for a schedule of 4 workers
@@ -63,10 +63,10 @@ fn tell_lane<W: Write>(writer: &mut W, shift: &Lane) -> Result<(), Stop> {
 }
 
 // Writes which places each worker ran, with delays drawn from a seed, or none if it is 0.
-fn tell_lanes<R: Threads + Wait + Sync, W: Write>(
+fn tell_lanes<R: Threads + Sync, W: Write>(
     rt: &R,
     alloc: Global,
-    day: &DayInput,
+    day: DayInput,
     words: &[String],
     writer: &mut W,
 ) -> Result<(), Stop> {
@@ -75,7 +75,8 @@ fn tell_lanes<R: Threads + Wait + Sync, W: Write>(
         seed: number_at(words, 1)?,
     };
     let gate = Noting::of(alloc, day.batch.len(), delays)?;
-    let (_, shifts) = by_stealing(rt, alloc, day, number_at(words, 0)?, &gate)?;
+    let parts = in_one_list(alloc, day)?;
+    let (_, shifts) = by_regions(rt, alloc, parts, number_at(words, 0)?, &gate)?;
     for shift in shifts.iter() {
         tell_lane(writer, shift)?;
     }
@@ -144,6 +145,7 @@ fn carry_out<R: Threads + Wait + Sync, W: Write>(
             Ok(())
         }
         "regions" => settle_in_regions(rt, alloc, day, number_at(rest, 0)?),
+        "lanes" => tell_lanes(rt, alloc, day, rest, writer),
         "try" => try_stealing(rt, alloc, text, &day, rest, writer),
         _ => carry_out_on(rt, alloc, &day, first.as_str(), rest, writer),
     }
@@ -166,7 +168,6 @@ fn carry_out_on<R: Threads + Wait + Sync, W: Write>(
         "orders" => try_orders(alloc, day, rest, writer),
         "levels" => settle_levels(rt, alloc, day, number_at(rest, 0)?),
         "stealing" => settle_stealing(rt, alloc, day, number_at(rest, 0)?),
-        "lanes" => tell_lanes(rt, alloc, day, rest, writer),
         _ => Err(Stop::Input),
     }
 }

@@ -11,12 +11,12 @@ use Rattle.crossbeam_deque.specs.Tasks.{Pushes, Takes, Forks}
 use Rattle.crossbeam_deque.proofs.Lists.{at_set, at_snoc}
 use Rattle.reg_facts.specs.Counting.{total, times, once}
 use Rattle.reg_facts.proofs.lemmas.Times.{times-push, once-only}
-use Rattle.reg_tasks.specs.declared.naming.Naming.{Ghosts}
+use Rattle.reg_deques.specs.declared.numbered.Numbered.{Ghosts}
 use Rattle.reg_deques.specs.declared.ticket.Ticketed.{Ticketed}
 use Rattle.reg_deques.specs.declared.views.DequeView.{DequeView}
 use Rattle.reg_deques.specs.Views.{view, fresh_view, blank, table_of, with_table, with_put, with_taken}
 use Rattle.reg_deques.specs.Deques.{IsViewOf}
-use Rattle.reg_deques.specs.Queues.{Queued, places_of, queued, queue_of, AreTicketed, IsDeque}
+use Rattle.reg_deques.specs.Queues.{Queued, numbers_of, queued, queue_of, AreTicketed, IsDeque}
 use Rattle.reg_deques.specs.Steps.{PutStep, TakesOwn, TakeStep, StealStep}
 use Rattle.reg_deques.proofs.Counts.{total_set, total_has, total_snoc, once_none, once_more}
 use Rattle.reg_deques.proofs.Counts.{once_past, drop_first}
@@ -98,7 +98,7 @@ single (x ∷ []) zero v one at = (ap (λ y. y ∷ []) (some-injective x v at), 
 single (x ∷ []) (suc port) v one at = absurd (some-ne-none v (sym at))
 single (x ∷ y ∷ xs) port v one at = absurd (omega arith)
 
-none_left : (tasks : List Queued) (k : ℕ) → places_of tasks ≡ drop k [] → tasks ≡ []
+none_left : (tasks : List Queued) (k : ℕ) → numbers_of tasks ≡ drop k [] → tasks ≡ []
 none_left [] k e = refl
 none_left (t ∷ ts) zero e = absurd cc
 none_left (t ∷ ts) (suc k) e = absurd cc
@@ -168,14 +168,14 @@ pub putting_keeps : (tasks : List Queued) (views : List DequeView) (port : ℕ) 
     → IsDeque tasks views
     → get_elem? views port ≡ some v → v.owns ≡ true
     → t.position ≡ suc (length v.put) → t.table ∷ [] ≡ table_of v
-    → IsDeque (tasks ++ t ∷ []) (set views port (with_put (t.place ∷ []) v))
+    → IsDeque (tasks ++ t ∷ []) (set views port (with_put (t.number ∷ []) v))
 putting_keeps tasks views port v t h at owns position table =
-    let place : ℕ = t.place in
-    let put : List ℕ = h.put ++ place ∷ [] in
-    let w : DequeView = with_put (place ∷ []) v in
+    let number : ℕ = t.number in
+    let put : List ℕ = h.put ++ number ∷ [] in
+    let w : DequeView = with_put (number ∷ []) v in
     let mine = h.order.known port v at in
     let own = mine.owned owns in
-    let ends : h.k + length tasks ≡ length h.put = (let a = length-map tasks (λ (q : Queued). q.place) in
+    let ends : h.k + length tasks ≡ length h.put = (let a = length-map tasks (λ (q : Queued). q.number) in
     let b = ap length h.order.holds in let c = length-drop h.k h.put in let d = h.order.within in
     omega arith) in
     record {
@@ -184,20 +184,20 @@ putting_keeps tasks views port v t h at owns position table =
       k = h.k;
       table = h.table;
       order = record {
-        within = (let b = h.order.within in omega (arith, length-append h.put (place ∷ [])));
-        holds = map-append (λ (q : Queued). q.place) tasks (t ∷ []) ∙ ap (λ l. l ++ place ∷ []) h.order.holds
-            ∙ sym (drop-append-le h.k h.put (place ∷ []) h.order.within);
+        within = (let b = h.order.within in omega (arith, length-append h.put (number ∷ [])));
+        holds = map-append (λ (q : Queued). q.number) tasks (t ∷ []) ∙ ap (λ l. l ++ number ∷ []) h.order.holds
+            ∙ sym (drop-append-le h.k h.put (number ∷ []) h.order.within);
         took = λ p. let s = total_set (taken p) views port v w at in let c = h.order.took p in omega arith;
         known = known_set h.owner put views port w
             (record {
-              owned = λ _. (own.0, ap (λ l. l ++ place ∷ []) own.1);
+              owned = λ _. (own.0, ap (λ l. l ++ number ∷ []) own.1);
               seen = λ no. absurd (true≢false (sym owns ∙ no));
               reached = λ no. absurd (true≢false (sym owns ∙ no));
             })
             (λ j u other e. let theirs = h.order.known j u e in record {
               owned = λ yes. absurd (other ((theirs.owned yes).0 ∙ sym own.0));
               seen = λ no. let s = theirs.seen no in
-                  (s.0 ++ place ∷ [], ap (λ l. l ++ place ∷ []) s.1 ∙ append_assoc u.seen s.0 (place ∷ []));
+                  (s.0 ++ number ∷ [], ap (λ l. l ++ number ∷ []) s.1 ∙ append_assoc u.seen s.0 (number ∷ []));
               reached = theirs.reached;
             });
       };
@@ -227,9 +227,9 @@ new_position k views port v at h = let t = total_has (taken (suc k)) views port 
 
 pub taking_keeps : (t : Queued) (rest : List Queued) (views : List DequeView) (port : ℕ) (v : DequeView)
     → IsDeque (t ∷ rest) views → get_elem? views port ≡ some v → v.owns ≡ true
-    → (w : DequeView) × IsDeque rest (set views port w) × TakesOwn v t.place w
+    → (w : DequeView) × IsDeque rest (set views port w) × TakesOwn v t.number w
 taking_keeps t rest views port v h at owns =
-    let first = drop_first h.put h.k t.place (places_of rest) h.order.holds in
+    let first = drop_first h.put h.k t.number (numbers_of rest) h.order.holds in
     let w : DequeView = with_taken (suc h.k) v.seen v in
     let own = (h.order.known port v at).owned owns in (
       w,
@@ -261,7 +261,7 @@ pub stealing_keeps : (t : Queued) (rest : List Queued) (views : List DequeView) 
     → IsDeque (t ∷ rest) views → get_elem? views port ≡ some v → v.owns ≡ false
     → (w : DequeView) × IsDeque rest (set views port w) × StealStep v (t ∷ []) w
 stealing_keeps t rest views port v h at owns =
-    let first = drop_first h.put h.k t.place (places_of rest) h.order.holds in
+    let first = drop_first h.put h.k t.number (numbers_of rest) h.order.holds in
     let w : DequeView = with_taken (suc h.k) h.put v in
     let counts = counts_more views port v h.k h.put at h.order.took in (
       w,
@@ -302,8 +302,8 @@ stealing_keeps t rest views port v h at owns =
       ),
     )
 
-module _ {N : Type 0} {b : Ghosts N} where
-  abbrev Held : List (Ticketed N b) → List DequeView → Type 0
+module _ {T : Type 0} {b : Ghosts T} where
+  abbrev Held : List (Ticketed T b) → List DequeView → Type 0
   Held items views = IsDeque (queue_of items) views
 
   pub tells_table : (port : ℕ) (v : DequeView) (table : TableId) → v ≡ fresh_view
@@ -315,11 +315,11 @@ module _ {N : Type 0} {b : Ghosts N} where
       → Forks Held port v v (blank (table_of v))
   splits_deque port v table told items views h at = splitting_keeps (queue_of items) views port v table h at told
 
-  pub puts_task : (port : ℕ) (v : DequeView) (t : Ticketed N b) → v.owns ≡ true
+  pub puts_task : (port : ℕ) (v : DequeView) (t : Ticketed T b) → v.owns ≡ true
       → length t.ticket.me.0.seen ≡ suc (length v.put) → t.ticket.table_id ∷ [] ≡ table_of v
       → Pushes Held port v (t ∷ []) (λ w. PutStep v (queue_of (t ∷ [])) w)
   puts_task port v t owns position table items views h at = (
-    with_put (t.task.place ∷ []) v,
+    with_put (b.number t.task ∷ []) v,
     rw (map-append queued items (t ∷ []))
         (putting_keeps (queue_of items) views port v (queued t) h at owns position table),
     refl,
@@ -339,7 +339,7 @@ module _ {N : Type 0} {b : Ghosts N} where
   steals_task port v owns (x ∷ y ∷ xs) items views any few h at = absurd (omega arith)
 
   -- what the owner's view keeps, whether it took a task or not
-  pub keeps_owner : (o : Option (Ticketed N b)) (v w : DequeView)
+  pub keeps_owner : (o : Option (Ticketed T b)) (v w : DequeView)
       → MatchOption o ((w ≡ v) × ⊤) (λ x. TakeStep v (queue_of (x ∷ [])) w) → (w.owns ≡ v.owns)
       × (table_of w ≡ table_of v) × (w.put ≡ v.put)
   keeps_owner (Some x) v w h = (ap (λ u. u.owns) h.2, ap table_of h.2, ap (λ u. u.put) h.2)

@@ -13,20 +13,20 @@ use Rattle.reg_deques.specs.declared.pass.DequePass.{DequePass}
 abbrev pub DequeId : Type 0
 DequeId = (RowsId × Global) × TableId
 
-module _ {N : Type 0} {b : _} where
-  abbrev pub owner_id : Owner N b → DequeId
+module _ {T : Type 0} {b : _} where
+  abbrev pub owner_id : Owner T b → DequeId
   owner_id o = (worker_deque o.deque, o.table.value.shared.table_id)
 
-  abbrev pub stealer_id : Stealer N b → DequeId
+  abbrev pub stealer_id : Stealer T b → DequeId
   stealer_id d = (stealer_deque d.stealer, d.table.value.shared.table_id)
 
-  abbrev pub deque_pass_id : DequePass N b → DequeId
+  abbrev pub deque_pass_id : DequePass T b → DequeId
   deque_pass_id p = ((p.pass.rows, p.pass.heap), p.seat.table_id)
 
   -- what the owner put and took
-  abbrev pub owned : Owner N b → DequeView
+  abbrev pub owned : Owner T b → DequeView
   owned o = worker_view o.deque
 
   -- what a pass at one deque says
-  abbrev pub ticket_view_of : DequePass N b → TicketView
+  abbrev pub ticket_view_of : DequePass T b → TicketView
   ticket_view_of p = p.seat.me.0

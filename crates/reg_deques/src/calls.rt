@@ -3,21 +3,26 @@
 ghost use Rattle.std.specs.Prelude.{◌≡◌, ◌≢◌, ◌<◌, ◌≤◌, ◌∷◌, [], All, Some, slice_get, vec_len, map, set, IfOk, IfSome};
 ghost use Rattle.std.specs.Prelude.{IfNone};
 ghost use Rattle.std.specs.List.{range_with_len};
+ghost use Rattle.crossbeam_deque.specs.Steals.{MatchSteal};
 ghost use Rattle.reg_deques.specs.Passes.{stealer_id, deque_pass_id, ticket_view_of};
 ghost use Rattle.reg_deques.specs.Tickets.{empty_ticket_view};
 ghost use Rattle.reg_deques.specs.Yards.{worker_count, worker_of, deques, deques_of_pass, deques_of_owners, each_owned};
-ghost use Rattle.reg_deques.specs.Yards.{views, IsNew, IsPassOf, IsBlank, StealsAt, AllJoin};
+ghost use Rattle.reg_deques.specs.Yards.{views, IsNew, IsPassOf, IsBlank, StealsAt, StealsAny, AllJoin};
 
+use crate::numbered::Numbered;
 use crate::owner::Owner;
 use crate::pass::{DequePass, Pass};
 use crate::stealer::Stealer;
 use crate::yard::Yard;
+use crossbeam_deque::Steal;
 use reg_base::NoMemory;
-use reg_tasks::{Naming, Task};
 use std::alloc::Global;
 
+// The most deques of a yard.
+const MOST_DEQUES: usize = 8;
+
 // A thief's pass at the deque of one owner.
-fn deque_pass_at<N: Naming>(owners: &mut Vec<Owner<N>>, k: usize) -> DequePass<N>
+fn deque_pass_at<T: Numbered + Drop>(owners: &mut Vec<Owner<T>>, k: usize) -> DequePass<T>
     requires within { k < vec_len owners.old }
     ensures of { slice_get (deques_of_owners owners.old.items) k ≡ Some (deque_pass_id result) }
     ensures blank { ticket_view_of result ≡ empty_ticket_view }
@@ -28,11 +33,11 @@ fn deque_pass_at<N: Naming>(owners: &mut Vec<Owner<N>>, k: usize) -> DequePass<N
 }
 
 // A pass at the deques of all owners.
-fn pass_at<N: Naming>(
+fn pass_at<T: Numbered + Drop>(
     alloc: Global,
-    owners: &mut Vec<Owner<N>>,
+    owners: &mut Vec<Owner<T>>,
     worker: u32,
-) -> Result<Pass<N>, NoMemory>
+) -> Result<Pass<T>, NoMemory>
     ensures worker { IfOk result (λ p. worker_of p ≡ worker) }
     ensures of { IfOk result (λ p. deques_of_pass p ≡ deques_of_owners owners.old.items) }
     ensures blank { IfOk result IsBlank }
@@ -50,10 +55,10 @@ fn pass_at<N: Naming>(
 }
 
 // Joins one pass with another, deque by deque.
-fn join_deque_passes<N: Naming>(
-    stealers: &Vec<Stealer<N>>,
-    deque_passes: &mut Vec<DequePass<N>>,
-    mut others: Vec<DequePass<N>>,
+fn join_deque_passes<T: Numbered + Drop>(
+    stealers: &Vec<Stealer<T>>,
+    deque_passes: &mut Vec<DequePass<T>>,
+    mut others: Vec<DequePass<T>>,
 )
     requires of { map deque_pass_id deque_passes.old.items ≡ map stealer_id stealers.now.items }
     requires others { map deque_pass_id others.items ≡ map stealer_id stealers.now.items }
@@ -67,7 +72,7 @@ fn join_deque_passes<N: Naming>(
     }
 }
 
-impl<N: Naming> Yard<N> {
+impl<T: Numbered + Drop> Yard<T> {
     /// A deque for each worker, in which there is room for 16 tasks, its owner, and a pass for each worker.
     ///
     /// # Errors
@@ -76,7 +81,7 @@ impl<N: Naming> Yard<N> {
     pub fn new(
         alloc: Global,
         workers: u32,
-    ) -> Result<(Yard<N>, Vec<Owner<N>>, Vec<Pass<N>>), NoMemory>
+    ) -> Result<(Yard<T>, Vec<Owner<T>>, Vec<Pass<T>>), NoMemory>
         requires some { 1 ≤ workers }
         requires few { workers ≤ 8 }
         ensures counts { IfOk result
@@ -107,22 +112,61 @@ impl<N: Naming> Yard<N> {
         self.stealers.len()
     }
 
-    /// Takes the first task of another worker, if there is one and nobody is quicker. The pass must be of this yard.
-    pub fn steal(&self, pass: &mut Pass<N>, from: u32) -> Option<Task<N>>
+    // Takes the first task of another worker, or answers whether its deque was empty or somebody was quicker.
+    fn try_steal(&self, pass: &mut Pass<T>, from: u32) -> Steal<T>
         requires of { IsPassOf self.now pass.old }
         requires within { from < worker_count self.now }
         requires other { from ≢ worker_of pass.old }
         ensures of { deques_of_pass pass.new ≡ deques_of_pass pass.old }
         ensures worker { worker_of pass.new ≡ worker_of pass.old }
-        ensures some { IfSome result (λ t. StealsAt from (views pass.old) t.place (views pass.new)) }
-        ensures none { IfNone result (views pass.new ≡ views pass.old) }
+        ensures rule { MatchSteal result (views pass.new ≡ views pass.old) (views pass.new ≡ views pass.old)
+            (λ t. StealsAt from (views pass.old) (T.number t) (views pass.new)) }
     {
         let at = from as usize;
         self.stealers[at].steal(&mut pass.deque_passes[at])
     }
 
+    /// Takes the first task of another worker, if there is one and nobody is quicker. The pass must be of this yard.
+    pub fn steal(&self, pass: &mut Pass<T>, from: u32) -> Option<T>
+        requires of { IsPassOf self.now pass.old }
+        requires within { from < worker_count self.now }
+        requires other { from ≢ worker_of pass.old }
+        ensures of { deques_of_pass pass.new ≡ deques_of_pass pass.old }
+        ensures worker { worker_of pass.new ≡ worker_of pass.old }
+        ensures some { IfSome result (λ t. StealsAt from (views pass.old) (T.number t) (views pass.new)) }
+        ensures none { IfNone result (views pass.new ≡ views pass.old) }
+    {
+        match self.try_steal(pass, from) {
+            Steal::Success(task) => Some(task),
+            Steal::Empty | Steal::Retry => None,
+        }
+    }
+
+    /// Takes the first task of the first other worker that has one, in rising number. `Empty` if each of their deques
+    /// was empty, and `Retry` if somebody was quicker at one. The pass must be of this yard.
+    pub fn steal_any(&self, pass: &mut Pass<T>) -> Steal<T>
+        requires of { IsPassOf self.now pass.old }
+        ensures of { deques_of_pass pass.new ≡ deques_of_pass pass.old }
+        ensures worker { worker_of pass.new ≡ worker_of pass.old }
+        ensures rule { MatchSteal result (views pass.new ≡ views pass.old) (views pass.new ≡ views pass.old)
+            (λ t. StealsAny (worker_of pass.old) (views pass.old) (T.number t) (views pass.new)) }
+    {
+        let own = pass.worker();
+        let mut outrun = false;
+        for from in 0..self.stealers.len().min(MOST_DEQUES) as u32 {
+            if from != own {
+                match self.try_steal(pass, from) {
+                    Steal::Success(task) => return Steal::Success(task),
+                    Steal::Empty => {}
+                    Steal::Retry => outrun = true,
+                }
+            }
+        }
+        if outrun { Steal::Retry } else { Steal::Empty }
+    }
+
     /// Makes one pass of two of this yard, which knows what both know. It is the first's worker's.
-    pub fn join(&self, pass: Pass<N>, other: Pass<N>) -> Pass<N>
+    pub fn join(&self, pass: Pass<T>, other: Pass<T>) -> Pass<T>
         requires of { IsPassOf self.now pass }
         requires other { IsPassOf self.now other }
         ensures of { IsPassOf self.now result }

@@ -1,5 +1,5 @@
-//! Deques of ready tasks: one for each worker, who puts tasks behind and takes the first, while the others steal the
-//! first.
+//! Deques of tasks: one for each worker, who puts tasks behind and takes the first, while the others steal the first. A
+//! task is whatever has a number ([`Numbered`]): a region of a day, or an instruction with the values that it needs.
 //!
 //! A use of it, proved in `example_uses/src/deques.rt`:
 //!
@@ -9,14 +9,13 @@
 //! ghost use Rattle.reg_deques.specs.Steps.{TakesOwn};
 //! ghost use Rattle.reg_deques.specs.Passes.{owned};
 //!
-//! use reg_deques::Owner;
-//! use reg_tasks::{Naming, Task};
+//! use reg_deques::{Numbered, Owner};
 //!
 //! /// Puts a task behind those of a worker's deque, and takes the first one, which is this task only if no other is
 //! /// there.
 //! /// `None` if the deque has no room for it.
-//! pub fn put_and_take<N: Naming>(owner: &mut Owner<N>, task: Task<N>) -> Option<Task<N>>
-//!     ensures { IfSome result (λ t. TakesOwn (with_put (task.place ∷ []) (owned owner.old)) t.place
+//! pub fn put_and_take<T: Numbered + Drop>(owner: &mut Owner<T>, task: T) -> Option<T>
+//!     ensures { IfSome result (λ t. TakesOwn (with_put (T.number task ∷ []) (owned owner.old)) (T.number t)
 //!         (owned owner.new)) }
 //! {
 //!     owner.put(task).ok()?;
@@ -25,7 +24,7 @@
 //! ```
 //!
 //! A [`Yard`] has a deque for each worker. Its [`Owner`] puts and takes tasks. A worker steals from the others by its
-//! [`Pass`], which says what it knows of each deque: the positions that it took, and the places that it saw to be put.
+//! [`Pass`], which says what it knows of each deque: the positions that it took, and the numbers that it saw to be put.
 //! What is known exists in proofs alone, and takes no bytes. The rule of a deque (`specs/Deques.antt`) holds between
 //! any two steps of any threads, so the tasks come out in the order in which they were put, and each position is taken
 //! once.
@@ -39,6 +38,7 @@
 #![tactic(auto)]
 
 mod calls;
+mod numbered;
 mod owner;
 mod owning;
 mod pass;
@@ -49,6 +49,8 @@ mod ticket;
 mod views;
 mod yard;
 
+pub use crossbeam_deque::Steal;
+pub use numbered::Numbered;
 pub use owner::Owner;
 pub use pass::{DequePass, Pass};
 pub use views::{DequeView, TicketView};

@@ -5,23 +5,23 @@ ghost use Rattle.crossbeam_deque.specs.Handles.{worker_view, worker_flavor, work
 ghost use Rattle.reg_deques.specs.Views.{table_of};
 ghost use Rattle.reg_deques.specs.Tickets.{owner_of};
 
+use crate::numbered::Numbered;
 use crate::protocol::{InOrder, Tickets};
 use crate::ticket::Ticketed;
 use crate::views::{DequeView, TicketView};
 use atomic_table::{Seat, Table};
 use crossbeam_deque::Worker;
-use reg_tasks::Naming;
 use std::alloc::Global;
 use std::sync::Arc;
 
-pub(crate) type Deque<N> = Worker<Ticketed<N>, Global, DequeView, InOrder<N>>;
+pub(crate) type Deque<T> = Worker<Ticketed<T>, Global, DequeView, InOrder<T>>;
 
 pub(crate) type TicketTable = Table<(), TicketView, (), Tickets, Global>;
 
 /// The owner of a deque: what it put, and what it took itself.
 #[derive(Drop)]
-pub struct Owner<N: Naming> {
-    pub(crate) deque: Deque<N>,
+pub struct Owner<T: Numbered> {
+    pub(crate) deque: Deque<T>,
     pub(crate) table: Arc<TicketTable, Global>,
     pub(crate) seat: Seat<(), TicketView>,
     pub(crate) ghost fifo: { worker_flavor deque ≡ 0 },

@@ -5,15 +5,15 @@ ghost use Rattle.crossbeam_deque.specs.Handles.{view as view_of};
 ghost use Rattle.reg_deques.specs.Views.{table_of};
 ghost use Rattle.reg_deques.specs.Tickets.{Covers};
 
+use crate::numbered::Numbered;
 use crate::ticket::Ticketed;
 use crate::views::{DequeView, TicketView};
 use atomic_table::Seat;
-use reg_tasks::Naming;
 
 /// What a thief knows of one deque: its pass there, and its seat at the table of tickets.
 #[derive(Drop)]
-pub struct DequePass<N: Naming> {
-    pub(crate) pass: crossbeam_deque::Pass<Ticketed<N>, DequeView>,
+pub struct DequePass<T: Numbered> {
+    pub(crate) pass: crossbeam_deque::Pass<Ticketed<T>, DequeView>,
     pub(crate) seat: Seat<(), TicketView>,
     pub(crate) ghost light: { (pass.me.hand ≡ None) × (pass.me.spare ≡ None) },
     pub(crate) ghost guest: { (view_of pass).owns ≡ false },
@@ -26,12 +26,12 @@ pub struct DequePass<N: Naming> {
 
 /// What a worker knows of each deque as a thief, in the order of the deques.
 #[derive(Drop)]
-pub struct Pass<N: Naming> {
+pub struct Pass<T: Numbered> {
     pub(crate) worker: u32,
-    pub(crate) deque_passes: Vec<DequePass<N>>,
+    pub(crate) deque_passes: Vec<DequePass<T>>,
 }
 
-impl<N: Naming> Pass<N> {
+impl<T: Numbered + Drop> Pass<T> {
     /// The worker that it was made for, counted from 0.
     pub fn worker(&self) -> u32
         ensures { result ≡ self.now.worker }

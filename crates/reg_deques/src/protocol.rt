@@ -3,19 +3,19 @@
 ghost use Rattle.std.specs.Prelude.{ℕ, []};
 ghost use Rattle.atomic_table.specs.Seated.{TableId};
 
+use crate::numbered::Numbered;
 use crate::ticket::Ticketed;
 use crate::views::{DequeView, TicketView};
 use atomic_table::{Join, Play, Split, TableRule};
 use crossbeam_deque::protocol::{Outcome, Protocol};
-use reg_tasks::Naming;
 use std::marker::{Brand, PhantomData};
 
 /// The rule of a deque.
-pub(crate) struct InOrder<N: Naming> {
-    of: PhantomData<N>,
+pub(crate) struct InOrder<T: Numbered> {
+    of: PhantomData<T>,
 }
 
-impl<N: Naming> Protocol<Ticketed<N>, DequeView> for InOrder<N> {
+impl<T: Numbered> Protocol<Ticketed<T>, DequeView> for InOrder<T> {
     ghost use Rattle.reg_deques.specs.Queues.{queue_of, IsDeque};
     ghost use Rattle.reg_deques.specs.Views.{fresh_view};
 
@@ -30,7 +30,7 @@ impl<N: Naming> Protocol<Ticketed<N>, DequeView> for InOrder<N> {
 // The owner puts a task.
 pub(crate) struct Putting;
 
-impl<N: Naming> Outcome<Ticketed<N>, DequeView> for Putting {
+impl<T: Numbered> Outcome<Ticketed<T>, DequeView> for Putting {
     ghost use Rattle.reg_deques.specs.Queues.{queue_of};
     ghost use Rattle.reg_deques.specs.Steps.{PutStep};
 
@@ -40,7 +40,7 @@ impl<N: Naming> Outcome<Ticketed<N>, DequeView> for Putting {
 // The owner takes the first task.
 pub(crate) struct Taking;
 
-impl<N: Naming> Outcome<Ticketed<N>, DequeView> for Taking {
+impl<T: Numbered> Outcome<Ticketed<T>, DequeView> for Taking {
     ghost use Rattle.reg_deques.specs.Queues.{queue_of};
     ghost use Rattle.reg_deques.specs.Steps.{TakeStep};
 
@@ -50,7 +50,7 @@ impl<N: Naming> Outcome<Ticketed<N>, DequeView> for Taking {
 // Another worker takes the first task.
 pub(crate) struct Stealing;
 
-impl<N: Naming> Outcome<Ticketed<N>, DequeView> for Stealing {
+impl<T: Numbered> Outcome<Ticketed<T>, DequeView> for Stealing {
     ghost use Rattle.reg_deques.specs.Queues.{queue_of};
     ghost use Rattle.reg_deques.specs.Steps.{StealStep};
 
@@ -103,27 +103,27 @@ impl TableRule<(), TicketView, ()> for Tickets {
     ghost first = { λ k. owner_of [] };
 }
 
-// Of which place the task is that gets the next ticket.
-pub(crate) trait Placing {
-    ghost place: { ℕ };
+// Of which number the task is that gets the next ticket.
+pub(crate) trait Numbering {
+    ghost number: { ℕ };
 }
 
-impl Placing for Brand {
-    ghost place = { 0 };
+impl Numbering for Brand {
+    ghost number = { 0 };
 }
 
 // The owner makes a ticket for a task that it is about to put.
-pub(crate) struct Issuing<P: Placing> {
+pub(crate) struct Issuing<P: Numbering> {
     of: PhantomData<P>,
 }
 
-impl<P: Placing> Split<TicketView> for Issuing<P> {
+impl<P: Numbering> Split<TicketView> for Issuing<P> {
     ghost use Rattle.std.specs.Prelude.{[], ◌∷◌, ◌++◌};
     ghost use Rattle.reg_deques.specs.Tickets.{owner_of, ticket_of};
 
-    ghost left = { λ v. owner_of (v.seen ++ P.place ∷ []) };
+    ghost left = { λ v. owner_of (v.seen ++ P.number ∷ []) };
 
-    ghost right = { λ v. ticket_of (v.seen ++ P.place ∷ []) };
+    ghost right = { λ v. ticket_of (v.seen ++ P.number ∷ []) };
 }
 
 // It takes the ticket back, since the deque did not take the task.

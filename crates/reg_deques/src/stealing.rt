@@ -1,9 +1,11 @@
 //! Stealing, and joining what two thieves know of a deque.
 
-ghost use Rattle.std.specs.Prelude.{◌≡◌, [], false, IfOk, IfSome, IfNone};
+ghost use Rattle.std.specs.Prelude.{◌≡◌, [], false, IfOk};
+ghost use Rattle.crossbeam_deque.specs.Steals.{MatchSteal};
 ghost use Rattle.reg_deques.specs.Passes.{stealer_id, deque_pass_id, owner_id, ticket_view_of};
 ghost use Rattle.reg_deques.specs.Steps.{Steals, Joins};
 
+use crate::numbered::Numbered;
 use crate::owner::{Owner, TicketTable};
 use crate::pass::DequePass;
 use crate::protocol::{Joining, Settling, Stealing};
@@ -13,7 +15,6 @@ use crate::views::TicketView;
 use atomic_table::Seat;
 use crossbeam_deque::Steal;
 use reg_base::NoMemory;
-use reg_tasks::{Naming, Task};
 use std::sync::Arc;
 
 // All that a seat holds goes to another one, which knows then that no ticket is there twice.
@@ -33,9 +34,9 @@ fn gather(table: &TicketTable, seat: &mut Seat<(), TicketView>, other: Seat<(), 
     table.shared.load::<Settling>(seat, 0);
 }
 
-impl<N: Naming> Stealer<N> {
+impl<T: Numbered + Drop> Stealer<T> {
     // Where others take from an owner's deque.
-    pub(crate) fn of(owner: &Owner<N>) -> Result<Stealer<N>, NoMemory>
+    pub(crate) fn of(owner: &Owner<T>) -> Result<Stealer<T>, NoMemory>
         ensures { IfOk result (λ d. stealer_id d ≡ owner_id owner.now) }
     {
         let stealer = owner.deque.stealer()?;
@@ -44,26 +45,26 @@ impl<N: Naming> Stealer<N> {
     }
 
     // Takes the first task of the deque, if there is one and nobody is quicker.
-    pub(crate) fn steal(&self, deque_pass: &mut DequePass<N>) -> Option<Task<N>>
+    pub(crate) fn steal(&self, deque_pass: &mut DequePass<T>) -> Steal<T>
         requires of { deque_pass_id deque_pass.old ≡ stealer_id self.now }
         ensures of { deque_pass_id deque_pass.new ≡ deque_pass_id deque_pass.old }
-        ensures some { IfSome result
-            (λ t. Steals (ticket_view_of deque_pass.old) t.place (ticket_view_of deque_pass.new)) }
-        ensures none { IfNone result (ticket_view_of deque_pass.new ≡ ticket_view_of deque_pass.old) }
+        ensures rule { MatchSteal result (ticket_view_of deque_pass.new ≡ ticket_view_of deque_pass.old)
+            (ticket_view_of deque_pass.new ≡ ticket_view_of deque_pass.old)
+            (λ t. Steals (ticket_view_of deque_pass.old) (T.number t) (ticket_view_of deque_pass.new)) }
     {
         match self.stealer.steal_as::<Stealing>(&mut deque_pass.pass) {
             Steal::Success(ticketed) => {
                 let Ticketed { task, ticket } = ticketed;
                 gather(&self.table, &mut deque_pass.seat, ticket);
-                Some(task)
+                Steal::Success(task)
             }
-            Steal::Empty => None,
-            Steal::Retry => None,
+            Steal::Empty => Steal::Empty,
+            Steal::Retry => Steal::Retry,
         }
     }
 
     // Makes one pass of two at this deque. It goes on stealing by the pass of the first.
-    pub(crate) fn join(&self, deque_pass: &mut DequePass<N>, other: DequePass<N>)
+    pub(crate) fn join(&self, deque_pass: &mut DequePass<T>, other: DequePass<T>)
         requires of { deque_pass_id deque_pass.old ≡ stealer_id self.now }
         requires other { deque_pass_id other ≡ stealer_id self.now }
         ensures of { deque_pass_id deque_pass.new ≡ deque_pass_id deque_pass.old }

@@ -25,7 +25,7 @@ use reg_book::{
     settle_plain,
 };
 use reg_plan::Plan;
-use reg_regions::{FreePlaces, RegionsFault, settle_regions};
+use reg_regions::{FreePlaces, RegionsFault, settle_without_shifts};
 use reg_text::{
     DayInput, DayParts, StatementFault, figures_of_parts, plan_text, statement, totals_of_parts,
     write_report_over, write_report_pieces,
@@ -301,8 +301,8 @@ fn close_day<T: Threads + Sync>(
         parts,
         batch,
     } = day;
-    match settle_regions(rt, alloc, parts, &rules, &batch, threads, &FreePlaces) {
-        Ok((closed, _)) => Ok(closed),
+    match settle_without_shifts(rt, alloc, parts, &rules, &batch, threads, &FreePlaces) {
+        Ok(closed) => Ok(closed),
         Err(refused) => match refused.fault {
             RegionsFault::NoMemory => Err(NoMemory),
             RegionsFault::Workers | RegionsFault::WrongBase { .. } => unreachable!(),
@@ -325,8 +325,8 @@ fn close_by_workers<T: Threads + Sync>(
         × (closed.replies.items ≡ replies_of (day_of parts rules.now batch.now)))
         (IsCommandFault (Settle workers) parts) }
 {
-    match settle_regions(rt, alloc, parts, rules, batch, workers, &FreePlaces) {
-        Ok((closed, _)) => Ok(closed),
+    match settle_without_shifts(rt, alloc, parts, rules, batch, workers, &FreePlaces) {
+        Ok(closed) => Ok(closed),
         Err(refused) => match refused.fault {
             RegionsFault::Workers => Err(FrontFault::Workers),
             RegionsFault::WrongBase { .. } => unreachable!(),

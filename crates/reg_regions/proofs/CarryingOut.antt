@@ -23,7 +23,7 @@ use Rattle.reg_rules.specs.Effect.{IsBehind}
 use Rattle.reg_rules.specs.Step.{step}
 use Rattle.reg_rules.specs.Laws.{StepLaws, IsReady, after_step, reply_to}
 use Rattle.reg_book.specs.Indexes.{each_at, StandAt}
-use Rattle.reg_regions.specs.declared.region.Placed.{Placed}
+use Rattle.reg_regions.specs.declared.instruction.Placed.{Placed}
 use Rattle.reg_regions.specs.Regions.{accounts_after, reply_for, accounts_after_all, replies_for, RiseAbove}
 use Rattle.reg_regions.specs.Settling.{places_in, IsInside, IsCarriedOut, IsRun}
 

@@ -1,5 +1,5 @@
 -- What regions leave, swapped back, is what the day leaves.
-use Rattle.std.proofs.Common.{◌≡◌, ℕ, suc, ◌+◌, ◌≤◌, eqb, List, length, get_or, Some}
+use Rattle.std.proofs.Common.{◌≡◌, ℕ, suc, ◌+◌, ◌≤◌, eqb, List, length, get_or, Some, Vec, Global}
 use Rattle.std.proofs.Common.{add-zero, sym, ap, subst, ◌∙◌, arith}
 use Rattle.std.specs.Prelude.{All, Contains, IsPermutation, Option, MatchOption}
 use Rattle.std.specs.List.{IsDistinct}
@@ -9,19 +9,23 @@ use Rattle.reg_rules.specs.declared.reply.LogRow.{LogRow}
 use Rattle.reg_rules.specs.declared.reply.Reply.{Reply}
 use Rattle.reg_rules.specs.State.{State, Setting, account, numbers}
 use Rattle.reg_rules.specs.Laws.{StepLaws, AgreeOn, IsReady}
+use Rattle.reg_base.specs.Batch.{BatchValue, IsBatch}
 use Rattle.reg_base.specs.Directory.{DirectoryValue}
+use Rattle.reg_base.specs.Rules.{AreRules}
 use Rattle.reg_rules.proofs.lemmas.Accounts.{length-numbers, distinct-permutation, account-permutation}
-use Rattle.reg_book.specs.Book.{BookValue, IsBookKept, directory_of}
+use Rattle.reg_book.specs.Book.{BookValue, IsBook, IsBookKept, directory_of}
 use Rattle.reg_book.specs.Day.{DayValue, IsDay, setting, closing_state, settled_day, replies_of, log_of}
 use Rattle.reg_book.specs.Settled.{committed}
 use Rattle.reg_book.specs.Laws.{StaysReady, NumbersStay, ClosingIsABook, CommittedIsClosing}
 use Rattle.reg_book.proofs.lemmas.Logs.{length-replies_of}
-use Rattle.reg_regions.specs.declared.region.Placed.{Placed}
+use Rattle.reg_regions.specs.declared.instruction.Placed.{Placed}
+use Rattle.reg_regions.specs.declared.dealing.Dealing.{Dealing}
 use Rattle.reg_regions.specs.declared.dealing.Swap.{Swap}
 use Rattle.reg_regions.specs.Days.{RegionsAreADay}
-use Rattle.reg_regions.specs.Dealing.{AreDealt, AreTurned, put_all}
+use Rattle.reg_regions.specs.Dealing.{AreDealt, AreTurned, IsAdmitted, put_all}
 use Rattle.reg_regions.specs.Homes.{IsPlaceUpTo}
 use Rattle.reg_regions.specs.Laws.{reply_of}
+use Rattle.reg_regions.specs.Lists.{joined_lists}
 use Rattle.reg_regions.specs.Settling.{places_in}
 use Rattle.reg_regions.specs.Swaps.{IsSwapWithin, exchanged, exchanged_back}
 use Rattle.reg_regions.proofs.Exchanged.{exchanged-same, exchanged-undone, back-same, map-exchanged, map-back}
@@ -111,19 +115,23 @@ replies-are day slots replies many right within each =
     (each (suc k) (omega arith) (omega (arith, lt, size, many)))
     ∙ sym (slice_get-map (λ (row : LogRow). row.reply) (log_of day) k))
 
--- what stays the same while the day is settled, made of its parts
-pub setting-is : (day : DayValue) (on : ℕ) (directory : DirectoryValue) → on ≡ day.batch.day
-    → directory ≡ directory_of day.book.accounts
-    → ◌≡◌ {A = Setting} (record { rules = day.rules; day = on; directory = directory }) (setting day)
-setting-is day on directory same listed = λ i. record { rules = day.rules; day = same i; directory = listed i }
+-- a day, made of what is known of its parts
+pub day-kept : {day : DayValue} → IsBook day.book → AreRules day.rules → IsBatch day.batch
+    → day.batch.base + 1 ≡ day.book.next → IsDay day
+day-kept book rules batch follows = record { book = book; rules = rules; batch = batch; follows = follows }
 
-module _ (laws : StepLaws) (ready : StaysReady) (stay : NumbersStay) (regions : RegionsAreADay) (day : DayValue)
-    (kept : IsDay day) (c : Setting) (old new : State) (replies : List Reply)
-    (same : c ≡ setting day) (opened : old ≡ day.book.accounts)
-    (turned : AreTurned c day.batch old new replies) where
+module _ (laws : StepLaws) (ready : StaysReady) (stay : NumbersStay) (regions : RegionsAreADay) {day : DayValue}
+    (kept : IsDay day) {on : ℕ} {directory : DirectoryValue} {old new : State} {replies : List Reply}
+    (dated : on ≡ day.batch.day) (listed : directory ≡ directory_of day.book.accounts)
+    (opened : old ≡ day.book.accounts)
+    (turned : AreTurned (record { rules = day.rules; day = on; directory = directory }) day.batch old new replies) where
+  of_setting : ◌≡◌ {A = Setting} (record { rules = day.rules; day = on; directory = directory }) (setting day)
+  of_setting = λ i. record { rules = day.rules; day = dated i; directory = listed i }
+
   of_day : AreTurned (setting day) day.batch day.book.accounts new replies
-  of_day = subst (λ k. AreTurned k day.batch day.book.accounts new replies) same
-      (subst (λ s. AreTurned c day.batch s new replies) opened turned)
+  of_day = subst (λ k. AreTurned k day.batch day.book.accounts new replies) of_setting
+      (subst (λ s. AreTurned (record { rules = day.rules; day = on; directory = directory }) day.batch s new replies)
+      opened turned)
 
   each-told : (place : ℕ) → 1 ≤ place → place ≤ length day.batch.instructions
       → Contains (places_in of_day.settled.told) place
@@ -146,21 +154,21 @@ module _ (laws : StepLaws) (ready : StaysReady) (stay : NumbersStay) (regions : 
       (once-within (length day.batch.instructions) (places_in of_day.settled.told) of_day.settled.each_once)) each-told
 
 -- the book after the day
-pub book-after : ClosingIsABook → (day : DayValue) → IsDay day
-    → (new : State) (directory : DirectoryValue) (next count : ℕ)
+pub book-after : ClosingIsABook → {day : DayValue} → IsDay day
+    → {new : State} {directory : DirectoryValue} {next count : ℕ}
     → new ≡ closing_state day → directory ≡ directory_of day.book.accounts → next ≡ day.book.next
     → count ≡ length day.batch.instructions → IsBookKept new directory (next + count)
-book-after closing day kept new directory next count is listed same many =
+book-after closing {day} kept {new} {directory} {next} {count} is listed same many =
     subst (λ s. IsBookKept s directory (next + count)) (sym is)
     (subst (λ d. IsBookKept (closing_state day) d (next + count)) (sym listed)
     (subst (IsBookKept (closing_state day) (directory_of day.book.accounts)) (sym (λ i. same i + many i))
     (closing day kept)))
 
 -- is that which a commit of the settled day gives
-pub is-after : CommittedIsClosing → (day : DayValue) → IsDay day → (new : State) (next count : ℕ)
+pub is-after : CommittedIsClosing → {day : DayValue} → IsDay day → {new : State} {next count : ℕ}
     → new ≡ closing_state day → next ≡ day.book.next → count ≡ length day.batch.instructions
     → ◌≡◌ {A = BookValue} (record { accounts = new; next = next + count }) (committed day.book (settled_day day))
-is-after commits day kept new next count is same many =
+is-after commits {day} kept is same many =
     (λ i. record { accounts = is i; next = same i + many i }) ∙ sym (commits day kept.book kept.follows)
 
 -- the book before the day is ready for its first record number
@@ -168,6 +176,9 @@ pub ready-day : StaysReady → (day : DayValue) → IsDay day → IsReady (day.b
 ready-day ready day kept =
     subst (λ n. IsReady n day.book.accounts) (add-zero (day.batch.base + 1)) (ready day kept 0 (omega arith))
 
--- what is known of an answer, where there is one
-pub at-some : {A : Type 0} (o : Option A) (N : Type 0) (P : A → Type 0) (x : A) → o ≡ Some x → MatchOption o N P → P x
-at-some {A} o N P x is known = subst (λ (q : Option A). MatchOption q N P) is known
+-- advice that was admitted
+pub admitted : (c : Setting) (b : BatchValue) (old : State) (new : List (Vec AccountValue Global))
+    {found : Option Dealing} {d : Dealing} → found ≡ Some d
+    → MatchOption found (joined_lists new ≡ old) (λ e. IsAdmitted c b e old new) → IsAdmitted c b d old new
+admitted c b old new is known =
+    subst (λ (o : Option Dealing). MatchOption o (joined_lists new ≡ old) (λ e. IsAdmitted c b e old new)) is known

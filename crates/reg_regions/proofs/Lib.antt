@@ -16,3 +16,4 @@ mod Endings
 mod Listed
 mod Tallied
 mod Ended
+mod Takings

@@ -1,14 +1,12 @@
 -- All instructions as those of one region, which has all accounts.
 use Rattle.std.proofs.Common.{◌≡◌, ℕ, zero, suc, ◌+◌, ◌-◌, ◌<◌, ◌≤◌, eqb, List, [], ◌∷◌, ◌++◌, map, length}
-use Rattle.std.proofs.Common.{get_or, refl, sym, ap, subst, ◌∙◌, inl, inr, arith, Vec, Global, Result, Ok, Err}
+use Rattle.std.proofs.Common.{get_or, refl, sym, ap, subst, ◌∙◌, inl, inr, arith, Result, Ok, Err}
 use Rattle.std.specs.Prelude.{slice_get, IfOk}
 use Rattle.std.specs.List.{AllByRecursion}
 use Rattle.std.specs.Option.{option_map_or}
 use Rattle.std.proofs.lemmas.Bool.{cases_eq, cases_lt, eq-eqb, ne_eqb}
-use Rattle.std.proofs.lemmas.List.{length-map, map-append}
+use Rattle.std.proofs.lemmas.List.{length-map}
 use Rattle.std.proofs.lemmas.List.Elements.{All-nil}
-use Rattle.arrayvec.specs.ArrayVec.{ArrayVec}
-use Rattle.reg_facts.proofs.lemmas.Lists.{all-append}
 use Rattle.reg_facts.proofs.lemmas.Times.{once-yes, once-past, once-zero}
 use Rattle.reg_base.specs.declared.instruction.Instruction.{Instruction}
 use Rattle.reg_base.specs.Batch.{BatchValue}
@@ -20,7 +18,7 @@ use Rattle.reg_facts.specs.Counting.{times, once, one_if}
 use Rattle.reg_base.proofs.lemmas.Rising.{length-count_up, count_up-more, get_or-count_up}
 use Rattle.reg_rules.specs.declared.reply.Reply.{Reply}
 use Rattle.reg_rules.specs.State.{State, Setting}
-use Rattle.reg_book.specs.Indexes.{StandAt, AllStandAt, each_at, index_lists}
+use Rattle.reg_book.specs.Indexes.{StandAt, AllStandAt, each_at}
 use Rattle.reg_regions.specs.Dealing.{AreSettledOnce, AreTurned}
 use Rattle.reg_regions.specs.Regions.{RiseAbove}
 use Rattle.reg_regions.specs.Homes.{IsHome, AreHome}
@@ -124,26 +122,6 @@ home-whole c b ns indexes found =
           (option_map_or (λ i. footprint c.directory i.act) (slice_get b.instructions j) [])) (sym less)
           (stand-at c.directory ns indexes b.instructions k found.within found.are_there inside);
     }
-
--- what was found of a run, and of those behind it
-pub found-both : {E : Type 0} (r : Result (Vec (ArrayVec ℕ) Global) E) (d : DirectoryValue) (ns : List ℕ)
-    (one other : List (ArrayVec ℕ)) (is js whole : List Instruction) → whole ≡ is ++ js
-    → AllStandAt d ns (index_lists one) is → AllStandAt d ns (index_lists other) js
-    → IfOk r (λ all. all.items ≡ one ++ other)
-    → IfOk r (λ all. AllStandAt d ns (index_lists all.items) whole)
-found-both (Ok all) d ns one other is js whole cut front back items =
-    let both : index_lists all.items ≡ index_lists one ++ index_lists other =
-    ap index_lists items ∙ map-append (λ (x : ArrayVec ℕ). x.items) one other in
-    record {
-      within = subst (AllByRecursion (AllByRecursion (λ p. p < length ns))) (sym both)
-          (all-append (AllByRecursion (λ p. p < length ns)) (index_lists one) (index_lists other) front.within
-          back.within);
-      are_there = ap (map (each_at ns)) both ∙ map-append (each_at ns) (index_lists one) (index_lists other)
-          ∙ ap (λ xs. xs ++ map (each_at ns) (index_lists other)) front.are_there
-          ∙ ap (λ xs. footprints d is ++ xs) back.are_there
-          ∙ sym (map-append (λ (i : Instruction). footprint d i.act) is js) ∙ ap (footprints d) (sym cut);
-    }
-found-both (Err e) d ns one other is js whole cut front back items = tt
 
 -- what came of one region that has all accounts and instructions
 pub whole-turned : {V E : Type 0} (c : Setting) (b : BatchValue) (r : Result V E) (after : V → State)

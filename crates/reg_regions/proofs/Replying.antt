@@ -8,7 +8,7 @@ use Rattle.std.proofs.lemmas.List.{length-set}
 use Rattle.std.proofs.lemmas.List.Elements.{All-head, All-tail, All-nil, All-cons}
 use Rattle.std.proofs.lemmas.Option.{same_Some}
 use Rattle.reg_rules.specs.declared.reply.Reply.{Reply}
-use Rattle.reg_regions.specs.declared.region.Placed.{Placed}
+use Rattle.reg_regions.specs.declared.instruction.Placed.{Placed}
 use Rattle.reg_regions.specs.Dealing.{put_all}
 use Rattle.reg_regions.specs.Homes.{IsPlaceUpTo}
 use Rattle.reg_regions.specs.Settling.{places_in}

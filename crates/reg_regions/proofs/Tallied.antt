@@ -1,26 +1,22 @@
 -- Settled regions counted: each number once, and each place as often as it was dealt out.
-use Rattle.std.proofs.Common.{◌≡◌, ℕ, zero, suc, ◌+◌, ◌<◌, ◌≤◌, ◌==◌, ◌&&◌, nat_le, true, false, List, [], ◌∷◌, ◌++◌}
-use Rattle.std.proofs.lemmas.Grind.{flat_map-append}
-use Rattle.std.proofs.Common.{append-nil, length, length-append, map, refl, sym, ap, ◌∙◌, arith, add-one}
+use Rattle.std.proofs.Common.{◌≡◌, ℕ, zero, suc, ◌+◌, ◌<◌, ◌≤◌, ◌==◌, Bool, true, false, List, [], ◌∷◌, ◌++◌}
+use Rattle.std.proofs.Common.{append_assoc, length, map, refl, sym, ap, ◌∙◌, arith, add-one}
 use Rattle.std.specs.Prelude.{IsPermutation, All}
-use Rattle.std.specs.List.{flat_map, sum_by}
+use Rattle.std.specs.List.{flat_map, range_with_len, sum_by}
 use Rattle.std.specs.List.Sorted.{IsNonDecreasingBy}
-use Rattle.std.proofs.lemmas.Bool.Decides.{nat_tests}
 use Rattle.std.proofs.lemmas.List.{length-map, get_or-map}
 use Rattle.std.proofs.lemmas.List.Elements.{All-append, All-nil, All-head, All-tail}
 use Rattle.std.proofs.lemmas.List.Sums.{sum_by-cons}
-use Rattle.std.proofs.lemmas.List.Sorted.{sum_by-IsPermutation}
-use mathlib.Core.Logic.{dite}
-use native.Mathlib.Decide.{ℕ_discrete, dec_le}
-use Rattle.reg_facts.proofs.lemmas.Times.{equal-one, apart-none, times-contains, once-yes, once-past, once-zero}
-use Rattle.reg_facts.proofs.lemmas.Times.{times-append}
+use Rattle.std.proofs.lemmas.List.Sorted.{sum_by-IsPermutation, IsNonDecreasingBy-from_default}
+use Rattle.reg_facts.proofs.lemmas.Times.{equal-one, times-contains, times-append}
 use Rattle.reg_base.specs.Rising.{count_up}
+use Rattle.reg_base.proofs.lemmas.Rising.{length-count_up, get_or-count_up}
 use Rattle.reg_facts.specs.Counting.{one_if, total, times, once}
 use Rattle.reg_facts.proofs.lemmas.Totals.{total-append}
 use Rattle.reg_regions.specs.declared.running.settled_list.SettledList.{SettledList}
-use Rattle.reg_regions.specs.declared.running.shift.WorkShift.{WorkShift}
-use Rattle.reg_regions.specs.Settling.{places_in}
-use Rattle.reg_regions.specs.Stealing.{numbers_of, settled_places, times_in_shifts, first_numbers}
+use Rattle.reg_regions.specs.Settling.{kept, places_in}
+use Rattle.reg_regions.specs.Stealing.{numbers_of, settled_places, times_noted, first_numbers}
+use Rattle.reg_regions.proofs.Placing.{times-count}
 
 -- a sum is the same in another order
 total-sum : {X : Type 0} (f : X → ℕ) (xs : List X) → total f xs ≡ sum_by f xs
@@ -55,24 +51,7 @@ places-permuted p ss ts same =
     times-places p ts ∙ total-permuted (λ (s : SettledList). times p (places_in s.replies.items)) ss ts same
     ∙ sym (times-places p ss)
 
--- ---- numbers that do not fall, each once from one number to another
-
--- 1 from the first of so many numbers to the last, and else 0
-abbrev span : ℕ → ℕ → ℕ → ℕ
-span first n p = one_if (nat_le first p && nat_le (suc p) (first + n))
-
-span-yes : (first n p : ℕ) → first ≤ p → p < first + n → span first n p ≡ 1
-span-yes first n p low high =
-    let t : (nat_le first p && nat_le (suc p) (first + n)) ≡ true = grind (arith, nat_tests) in
-    rw t refl
-
-span-low : (first n p : ℕ) → p < first → span first n p ≡ 0
-span-low first n p low =
-    let t : (nat_le first p && nat_le (suc p) (first + n)) ≡ false = grind (arith, nat_tests) in rw t refl
-
-span-high : (first n p : ℕ) → first + n ≤ p → span first n p ≡ 0
-span-high first n p high =
-    let t : (nat_le first p && nat_le (suc p) (first + n)) ≡ false = grind (arith, nat_tests) in rw t refl
+-- ---- numbers that do not fall
 
 rise-tail : (x : ℕ) (xs : List ℕ) → IsNonDecreasingBy (λ y. y) (x ∷ xs) → IsNonDecreasingBy (λ y. y) xs
 rise-tail x xs rise i j d le lt = rise (suc i) (suc j) d (omega (arith, le)) (omega (arith, lt))
@@ -83,55 +62,31 @@ first-least x xs rise p some =
     let le = rise 0 k p (omega arith) lt in
     omega (arith, le, is)
 
-spans-are : (n first : ℕ) (xs : List ℕ) → IsNonDecreasingBy (λ y. y) xs → ((p : ℕ) → times p xs ≡ span first n p)
-    → xs ≡ count_up first n
-spans-are zero first [] rise each = refl
-spans-are zero first (x ∷ xs) rise each =
+-- they are the same, if each stands as often in both
+same-numbers : (xs ys : List ℕ) → IsNonDecreasingBy (λ y. y) xs → IsNonDecreasingBy (λ y. y) ys
+    → ((p : ℕ) → times p xs ≡ times p ys) → xs ≡ ys
+same-numbers [] [] rise other each = refl
+same-numbers [] (y ∷ ys) rise other each =
+    let here = each y in let one = equal-one y y refl in absurd (omega (arith, here, one))
+same-numbers (x ∷ xs) [] rise other each =
+    let here = each x in let one = equal-one x x refl in absurd (omega (arith, here, one))
+same-numbers (x ∷ xs) (y ∷ ys) rise other each =
     let here = each x in
-    let one = equal-one x x refl in
-    dite (dec_le first x)
-    (λ le. let none = span-high first 0 x (omega arith) in absurd (omega (arith, here, one, none)))
-    (λ gt. let none = span-low first 0 x (omega arith) in absurd (omega (arith, here, one, none)))
-spans-are (suc n) first [] rise each =
-    let here = each first in
-    let one = span-yes first (suc n) first (omega arith) (omega arith) in
-    absurd (omega (arith, here, one))
-spans-are (suc n) first (x ∷ xs) rise each =
-    let here = each first in
-    let yes_first = span-yes first (suc n) first (omega arith) (omega arith) in
-    let most = first-least x xs rise first (omega (arith, here, yes_first)) in
-    let own = each x in
-    let one = equal-one x x refl in
-    let least : first ≤ x = dite (dec_le first x) (λ le. le)
-    (λ gt. let none = span-low first (suc n) x (omega arith) in absurd (omega (arith, own, one, none))) in
-    let same : x ≡ first = omega (arith, most, least) in
-    ap (λ y. y ∷ xs) same ∙ ap (λ ys. first ∷ ys) (spans-are n (first + 1) xs (rise-tail x xs rise) (tail same))
-  where
-    tail : x ≡ first → (p : ℕ) → times p xs ≡ span (first + 1) n p
-    tail same p = dite (ℕ_discrete p first)
-        (λ is. let here = each p in
-        let one = equal-one x p (same ∙ sym is) in
-        let whole = span-yes first (suc n) p (omega (arith, is)) (omega (arith, is)) in
-        let none = span-low (first + 1) n p (omega (arith, is)) in
-        omega (arith, here, one, whole, none))
-        (λ apart. let here = each p in
-        let none = apart-none x p (λ e. apart (sym e ∙ same)) in
-        dite (dec_le first p)
-        (λ le. dite (dec_le (suc p) (first + suc n))
-        (λ lt. let whole = span-yes first (suc n) p le (omega arith) in
-        let part = span-yes (first + 1) n p (omega arith) (omega arith) in omega (arith, here, none, whole, part))
-        (λ ge. let whole = span-high first (suc n) p (omega arith) in
-        let part = span-high (first + 1) n p (omega arith) in omega (arith, here, none, whole, part)))
-        (λ gt. let whole = span-low first (suc n) p (omega arith) in
-        let part = span-low (first + 1) n p (omega arith) in omega (arith, here, none, whole, part)))
+    let there = each y in
+    let most = first-least y ys other x (omega (arith, here, equal-one x x refl)) in
+    let least = first-least x xs rise y (omega (arith, there, equal-one y y refl)) in
+    let same : x ≡ y = omega (arith, most, least) in
+    ap (λ n. n ∷ xs) same ∙ ap (λ ns. y ∷ ns) (same-numbers xs ys (rise-tail x xs rise) (rise-tail y ys other)
+    (λ p. let both = each p in
+    let first : one_if (x == p) ≡ one_if (y == p) = ap (λ n. one_if (n == p)) same in
+    omega (arith, both, first)))
 
-once-span : (n p : ℕ) → once n p ≡ span 1 n p
-once-span n p = dite (dec_le 1 p)
-    (λ le. dite (dec_le p n)
-    (λ in_it. once-yes n p le in_it ∙ sym (span-yes 1 n p le (omega arith)))
-    (λ past. once-past n p (omega arith) ∙ sym (span-high 1 n p (omega arith))))
-    (λ none. let zero_is : p ≡ 0 = omega arith in ap (once n) zero_is ∙ once-zero n
-    ∙ sym (span-low 1 n p (omega arith)))
+rise-count : (n : ℕ) → IsNonDecreasingBy (λ y. y) (count_up 1 n)
+rise-count n = IsNonDecreasingBy-from_default (λ y. y) (count_up 1 n) 0 (λ i j le lt.
+    let size = length-count_up 1 n in
+    let one = get_or-count_up 1 n i (omega (arith, le, lt, size)) in
+    let other = get_or-count_up 1 n j (omega (arith, lt, size)) in
+    omega (arith, le, one, other))
 
 rise-numbers : (ss : List SettledList) → IsNonDecreasingBy (λ s. s.number) ss
     → IsNonDecreasingBy (λ y. y) (numbers_of ss)
@@ -148,34 +103,35 @@ rise-numbers (s ∷ ss) rise i j d le lt =
 pub sorted-numbers : (n : ℕ) (ss ts : List SettledList) → IsPermutation ss ts → IsNonDecreasingBy (λ s. s.number) ts
     → ((p : ℕ) → times p (numbers_of ss) ≡ once n p) → numbers_of ts ≡ count_up 1 n
 sorted-numbers n ss ts same rise each =
-    spans-are n 1 (numbers_of ts) (rise-numbers ts rise)
-    (λ p. numbers-permuted p ss ts same ∙ each p ∙ once-span n p)
+    same-numbers (numbers_of ts) (count_up 1 n) (rise-numbers ts rise) (rise-count n)
+    (λ p. numbers-permuted p ss ts same ∙ each p ∙ sym (times-count n p))
 
--- ---- shifts
+-- ---- what workers noted
 
-pub shifts-more : (p : ℕ) (shifts : List WorkShift) (s : WorkShift)
-    → times_in_shifts p (shifts ++ s ∷ []) ≡ times_in_shifts p shifts + times p s.places.items
-shifts-more p shifts s = omega (arith, total-append (λ (x : WorkShift). times p x.places.items) shifts (s ∷ []))
+-- the notes of one worker more
+pub noted-times : {N : Type 0} (places : N → List ℕ) (p : ℕ) (all : List N) (n : N)
+    → times_noted places p (all ++ n ∷ []) ≡ times_noted places p all + times p (places n)
+noted-times places p all n = omega (arith, total-append (λ x. times p (places x)) all (n ∷ []))
 
--- one settled region more
-pub settled-more : (ss : List SettledList) (s : SettledList)
-    → settled_places (ss ++ s ∷ []) ≡ settled_places ss ++ places_in s.replies.items
-settled-more ss s =
-    flat_map-append (λ (x : SettledList). places_in x.replies.items) ss (s ∷ [])
-    ∙ ap (λ ps. settled_places ss ++ ps) (append-nil (places_in s.replies.items))
+kept-append : (keeps : Bool) (ps qs : List ℕ) → kept keeps (ps ++ qs) ≡ kept keeps ps ++ kept keeps qs
+kept-append true ps qs = refl
+kept-append false ps qs = refl
+
+-- a worker noted places behind others
+pub noted-more : (keeps : Bool) {noted : List ℕ} (old ps qs : List ℕ) → noted ≡ old ++ kept keeps ps
+    → noted ++ kept keeps qs ≡ old ++ kept keeps (ps ++ qs)
+noted-more keeps old ps qs before =
+    ap (λ ns. ns ++ kept keeps qs) before ∙ append_assoc old (kept keeps ps) (kept keeps qs)
+    ∙ ap (λ ns. old ++ ns) (sym (kept-append keeps ps qs))
+
+-- how often a place stands in what is kept of places
+pub kept-times : (keeps : Bool) (p : ℕ) (ps qs : List ℕ)
+    → times p (kept keeps (ps ++ qs)) ≡ times p (kept keeps ps) + times p (kept keeps qs)
+kept-times keeps p ps qs =
+    ap (times p) (kept-append keeps ps qs) ∙ times-append p (kept keeps ps) (kept keeps qs)
 
 pub numbers-next : (n : ℕ) → first_numbers (n + 1) ≡ first_numbers n ++ n ∷ []
 numbers-next n = rw add-one refl
-
--- numbers that count up, and one more
-pub count-more : (n first : ℕ) → count_up first (n + 1) ≡ count_up first n ++ (first + n) ∷ []
-count-more n first = rw add-one (go n first)
-  where
-    go : (m f : ℕ) → count_up f (suc m) ≡ count_up f m ++ (f + m) ∷ []
-    go zero f = let e : f ≡ f + 0 = omega arith in ap (λ x. x ∷ []) e
-    go (suc m) f =
-        let e : f + 1 + m ≡ f + suc m = omega arith in
-        ap (λ xs. f ∷ xs) (go m (f + 1)) ∙ ap (λ x. f ∷ (count_up (f + 1) m ++ x ∷ [])) e
 
 -- what holds of each item of each list holds of all
 pub all-flat : {X Y : Type 0} (P : Y → Type 0) (f : X → List Y) (xs : List X) → All (λ x. All P (f x)) xs
@@ -185,9 +141,15 @@ all-flat P f (x ∷ xs) all =
     All-append P (f x) (flat_map f xs) (All-head (λ y. All P (f y)) x xs all)
     (all-flat P f xs (All-tail (λ y. All P (f y)) x xs all))
 
-pub length-below : (n : ℕ) → length (first_numbers n) ≡ n
-length-below zero = refl
-length-below (suc n) =
-    let both = length-append (first_numbers n) (n ∷ []) in
-    let before = length-below n in
-    omega (arith, both, before)
+-- two words for the numbers below one
+pub range-first : (n : ℕ) → range_with_len 0 n ≡ first_numbers n
+range-first zero = refl
+range-first (suc n) =
+    let e : 0 + n ≡ n = omega arith in
+    go n 0 ∙ ap (λ x. range_with_len 0 n ++ x ∷ []) e ∙ ap (λ ns. ns ++ n ∷ []) (range-first n)
+  where
+    go : (m f : ℕ) → range_with_len f (suc m) ≡ range_with_len f m ++ (f + m) ∷ []
+    go zero f = let e : f ≡ f + 0 = omega arith in ap (λ x. x ∷ []) e
+    go (suc m) f =
+        let e : f + 1 + m ≡ f + suc m = omega arith in
+        ap (λ xs. f ∷ xs) (go m (f + 1)) ∙ ap (λ x. f ∷ (range_with_len (f + 1) m ++ x ∷ [])) e

@@ -23,7 +23,7 @@ use Rattle.reg_book.specs.Day.{DayValue, setting, closing_state}
 use Rattle.reg_book.specs.Laws.{StaysReady}
 use Rattle.reg_base.specs.declared.instruction.Instruction.{Instruction}
 use Rattle.reg_base.specs.Touches.{touches}
-use Rattle.reg_regions.specs.declared.region.Placed.{Placed}
+use Rattle.reg_regions.specs.declared.instruction.Placed.{Placed}
 use Rattle.reg_regions.specs.Regions.{Touches, IsRegion, accounts_after_all}
 use Rattle.reg_regions.specs.Settling.{places_in, IsInside, IsRun}
 use Rattle.reg_regions.specs.Days.{Run, all_opening, all_afterwards, all_replies, AreRuns, RegionsAreADay}

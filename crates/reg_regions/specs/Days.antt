@@ -5,7 +5,7 @@ use Rattle.reg_base.specs.Batch.{BatchValue}
 use Rattle.reg_rules.specs.State.{State, Setting, numbers}
 use Rattle.reg_rules.specs.Laws.{AgreeOn}
 use Rattle.reg_book.specs.Day.{DayValue, IsDay, setting, closing_state}
-use Rattle.reg_regions.specs.declared.region.Placed.{Placed}
+use Rattle.reg_regions.specs.declared.instruction.Placed.{Placed}
 use Rattle.reg_regions.specs.Laws.{reply_of}
 use Rattle.reg_regions.specs.Settling.{IsRun, places_in}
 

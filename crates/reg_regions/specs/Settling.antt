@@ -1,16 +1,21 @@
 -- What comes of a region whose instructions are carried out.
-use Rattle.std.specs.Prelude.{◌≡◌, ℕ, ◌+◌, ◌≤◌, true, List, All, Contains, map, length, Some}
+use Rattle.std.specs.Prelude.{◌≡◌, ℕ, ◌+◌, ◌≤◌, Bool, true, false, List, [], All, Contains, map, length, Some}
 use Rattle.reg_base.specs.Batch.{BatchValue}
 use Rattle.reg_rules.specs.declared.reply.Reply.{Reply}
 use Rattle.reg_rules.specs.State.{State, Setting, numbers}
 use Rattle.reg_rules.specs.Laws.{IsReady}
 use Rattle.reg_plan.specs.Arrows.{touches_place}
-use Rattle.reg_regions.specs.declared.region.Placed.{Placed}
+use Rattle.reg_regions.specs.declared.instruction.Placed.{Placed}
 use Rattle.reg_regions.specs.Regions.{accounts_after, accounts_after_all, reply_for, replies_for, RiseAbove}
 
 -- the places of replies
 abbrev pub places_in : List Placed → List ℕ
 places_in placed = map (λ p. p.place) placed
+
+-- the places that a worker notes of those that it carries out: all, or none
+abbrev pub kept : Bool → List ℕ → List ℕ
+kept true places = places
+kept false places = []
 
 -- the instruction at this place touches none but these accounts
 abbrev pub IsInside : Setting → BatchValue → List ℕ → ℕ → Type 0

@@ -1,5 +1,6 @@
 -- Workers that take regions from deques: what a region begins with, and what comes of all.
 use Rattle.std.specs.Prelude.{◌≡◌, ℕ, zero, suc, ◌+◌, ◌-◌, ◌<◌, List, [], ◌∷◌, ◌++◌, All, map, length, Some}
+use Rattle.std.specs.Prelude.{Bool, true}
 use Rattle.std.specs.Prelude.{slice_get, slice_index_or}
 use Rattle.std.specs.List.{flat_map}
 use Rattle.std.specs.Option.{option_map_or}
@@ -11,7 +12,7 @@ use Rattle.reg_account.specs.Account.{AccountValue}
 use Rattle.reg_rules.specs.State.{State, Setting, numbers}
 use Rattle.reg_rules.specs.Laws.{IsReady}
 use Rattle.reg_book.specs.Indexes.{index_lists}
-use Rattle.reg_facts.specs.Counting.{total, times}
+use Rattle.reg_facts.specs.Counting.{total, times, once}
 use Rattle.reg_regions.specs.declared.dealing.Deal.{Deal}
 use Rattle.reg_regions.specs.declared.running.settled_list.SettledList.{SettledList}
 use Rattle.reg_regions.specs.declared.running.shift.WorkShift.{WorkShift}
@@ -56,15 +57,26 @@ numbers_of settled = map (λ s. s.number) settled
 abbrev pub settled_places : List SettledList → List ℕ
 settled_places settled = flat_map (λ s. places_in s.replies.items) settled
 
+-- how often a place stands in what workers noted, taken together
+abbrev pub times_noted : {N : Type 0} → (N → List ℕ) → ℕ → List N → ℕ
+times_noted places place notes = total (λ n. times place (places n)) notes
+
 -- the workers of shifts
 abbrev pub shift_workers : List WorkShift → List ℕ
 shift_workers shifts = map (λ s. s.worker) shifts
 
 -- how often a place stands in shifts, taken together
 abbrev pub times_in_shifts : ℕ → List WorkShift → ℕ
-times_in_shifts place shifts = total (λ s. times place s.places.items) shifts
+times_in_shifts place shifts = times_noted (λ s. s.places.items) place shifts
 
 -- the numbers from 0 on, so many
 abbrev pub first_numbers : ℕ → List ℕ
 first_numbers zero = []
 first_numbers (suc n) = first_numbers n ++ n ∷ []
+
+-- what each worker noted, in rising order; if places are kept, each of the places 1 to n stands there once, and no
+-- other number
+pub record AreNotesOf {N : Type 0} (worker : N → ℕ) (keeps : Bool) (places : N → List ℕ) (workers count : ℕ)
+    (notes : List N) : Type 0 where
+  pub workers_are : map worker notes ≡ first_numbers workers
+  pub each_once : keeps ≡ true → (place : ℕ) → times_noted places place notes ≡ once count place

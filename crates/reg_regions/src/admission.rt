@@ -9,6 +9,7 @@ ghost use Rattle.reg_regions.specs.Swaps.{IsSwapWithin, exchanged};
 
 use crate::admission::accounts::are_all_home;
 use crate::admission::places::have_all_places;
+use crate::advice::numbers::short;
 use crate::dealing::{Deal, Dealing, Swap};
 use crate::exchange::{swap_all, swap_back};
 use crate::runs::runs_of;
@@ -59,7 +60,7 @@ fn admit_in<R: Threads + Sync>(
     if !is_each_dealt_once(alloc, batch, &dealing.deals) {
         return None;
     }
-    let runs = runs_of(batch.len(), workers);
+    let runs = runs_of(batch.len(), workers).min(short(lists.len()));
     if !swap_home(rt, setting, batch, &dealing, lists, runs) {
         return None;
     }

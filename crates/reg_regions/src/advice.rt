@@ -12,7 +12,7 @@ use crate::advice::lookups::{find_by_runs, find_touches};
 use crate::advice::movers::Movers;
 use crate::advice::numbers::{index_at, number_or_zero};
 use crate::dealing::{Deal, Dealing};
-use crate::region::Indexes;
+use crate::instruction::Indexes;
 use crate::runs::runs_of;
 use reg_account::Account;
 use reg_base::{Batch, NoMemory};
@@ -26,9 +26,9 @@ mod layout;
 pub(crate) mod lists;
 mod lookups;
 mod movers;
-mod numbers;
+pub(crate) mod numbers;
 
-/// How the day is dealt out to these lists, each a region, or `None` if it can't be.
+/// How the day is dealt out to these lists, each a region, or all to one. `None` if it can't be.
 pub(crate) fn advise<R: Threads + Sync>(
     rt: &R,
     alloc: Global,
@@ -64,17 +64,47 @@ fn try_deal<R: Threads + Sync>(
     };
     let runs = runs_of(batch.len(), workers);
     let indexes = find_by_runs(rt, alloc, lists, &layout, batch.instructions(), runs)?;
-    let touches = find_touches(alloc, &indexes)?;
-    let labels = find_labels(alloc, batch.len(), layout.accounts, &touches)?;
-    let bundles = Bundles::of(alloc, layout.accounts, &labels, &touches)?;
-    let Some(housed) = house(alloc, &layout, &bundles, batch.len(), workers)? else {
+    match deal_bundles(alloc, &layout, &indexes, batch.len(), workers)? {
+        Some(dealing) => Ok(Some(dealing)),
+        None => Ok(Some(deal_to_one(alloc, lists.len(), batch.len(), indexes)?)),
+    }
+}
+
+// All instructions dealt to one region, which has the accounts of all lists.
+fn deal_to_one(
+    alloc: Global,
+    lists: usize,
+    instructions: u32,
+    indexes: Vec<Indexes>,
+) -> Result<Dealing, NoMemory> {
+    let mut deals = Vec::new(alloc);
+    deals.push(Deal::of_all(alloc, instructions, indexes)?)?;
+    Ok(Dealing {
+        joins: vec![in alloc; 0u32; lists]?,
+        swaps: Vec::new(alloc),
+        deals,
+    })
+}
+
+// Each bundle dealt to a region, or `None` if that is not worth it, or regions have no room.
+fn deal_bundles(
+    alloc: Global,
+    lists: &Layout,
+    indexes: &[Indexes],
+    instructions: u32,
+    workers: u32,
+) -> Result<Option<Dealing>, NoMemory> {
+    let touches = find_touches(alloc, indexes)?;
+    let labels = find_labels(alloc, instructions, lists.accounts, &touches)?;
+    let bundles = Bundles::of(alloc, lists.accounts, &labels, &touches)?;
+    let Some(housed) = house(alloc, lists, &bundles, instructions, workers)? else {
         return Ok(None);
     };
     let Housed { layout, homes } = housed;
     let Some(movers) = Movers::of(alloc, &layout, bundles, &homes.regions)? else {
         return Ok(None);
     };
-    let deals = deal_all(alloc, &layout, &homes, &labels, &indexes, &movers.stands)?;
+    let deals = deal_all(alloc, &layout, &homes, &labels, indexes, &movers.stands)?;
     Ok(Some(Dealing {
         joins: layout.joins,
         swaps: movers.swaps,

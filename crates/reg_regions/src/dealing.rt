@@ -1,6 +1,11 @@
 //! How the accounts of a book and the instructions of a day are dealt out to regions.
 
-use crate::region::Indexes;
+ghost use Rattle.std.specs.Prelude.{◌≡◌, IfOk};
+ghost use Rattle.reg_base.specs.Rising.{count_up};
+
+use crate::instruction::Indexes;
+use reg_base::NoMemory;
+use std::alloc::Global;
 
 /// Two indexes of a list whose elements are swapped, each counted from 0.
 #[derive(Clone, Copy, Debug, PartialEq, Eq, Drop)]
@@ -18,6 +23,31 @@ pub(crate) struct Deal {
     pub(crate) places: Vec<u32>,
     /// For each of these instructions where its accounts stand in the region.
     pub(crate) indexes: Vec<Indexes>,
+}
+
+impl Deal {
+    /// All of so many instructions, with where the accounts of each stand.
+    ///
+    /// # Errors
+    /// `NoMemory` if memory ran out.
+    pub(crate) fn of_all(alloc: Global, count: u32, indexes: Vec<Indexes>) -> Result<Deal, NoMemory>
+        ensures places { IfOk result (λ d. d.places.items ≡ count_up 1 count) }
+        ensures indexes { IfOk result (λ d. d.indexes ≡ indexes) }
+    {
+        let places = all_places(alloc, count)?;
+        Ok(Deal { places, indexes })
+    }
+}
+
+// The places 1 to this one.
+fn all_places(alloc: Global, count: u32) -> Result<Vec<u32>, NoMemory>
+    ensures { IfOk result (λ places. places.items ≡ count_up 1 count) }
+{
+    let mut places = Vec::with_capacity(alloc, count as usize)?;
+    for before in 0..count {
+        places.push(before + 1)?;
+    }
+    Ok(places)
 }
 
 /// Regions, and the swaps after which the accounts of each stand together. Nothing is promised of it: who uses it tests

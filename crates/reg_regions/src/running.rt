@@ -4,34 +4,35 @@
 //! One worker settles it whole, in the order of the batch. Each worker has a deque of regions. One whose deque is empty
 //! steals from the others, and leaves when there is nothing to steal: no region appears later, so nobody waits.
 
-ghost use Rattle.std.specs.Prelude.{◌≡◌, ◌+◌, ◌≤◌, ◌<◌, ◌^◌, ℕ, length, vec_len, IfOk, IfSome};
+ghost use Rattle.std.specs.Prelude.{◌≡◌, ◌+◌, ◌≤◌, ◌<◌, ◌^◌, ℕ, All, length, map, vec_len, IfOk, IfSome};
 ghost use Rattle.reg_base.specs.Rules.{AreRules};
 ghost use Rattle.reg_rules.specs.Laws.{IsReady};
 ghost use Rattle.reg_claim.specs.Views.{fresh};
 ghost use Rattle.reg_claim.specs.Seats.{known, seat_table, table_id, places};
-ghost use Rattle.reg_facts.specs.Counting.{times};
+ghost use Rattle.reg_deques.specs.Yards.{deques, deques_of_pass, worker_of};
+ghost use Rattle.reg_facts.specs.Counting.{times, once};
 ghost use Rattle.reg_regions.specs.Dealing.{AreDealtOnce, AreSettledOnce};
 ghost use Rattle.reg_regions.specs.Homes.{AreAllHome};
 ghost use Rattle.reg_regions.specs.Lists.{joined_lists, sizes_of};
-ghost use Rattle.reg_regions.specs.Outcomes.{AreShiftsOf};
-ghost use Rattle.reg_regions.specs.Stealing.{region_openings, IsGround};
-ghost use Rattle.reg_regions.specs.Stealing.{shift_workers, first_numbers, times_in_shifts};
+ghost use Rattle.reg_regions.specs.Settling.{kept};
+ghost use Rattle.reg_regions.specs.Stealing.{region_openings, IsGround, AreSettled, AreNotesOf, numbers_of};
+ghost use Rattle.reg_regions.specs.Stealing.{first_numbers, settled_places, times_noted};
 
 use crate::dealing::Deal;
 use crate::gate::PlaceGate;
-use crate::running::deques::{
-    ReadyWorkers, deal_regions, make_deques, make_stealers, make_workers,
-};
-use crate::running::list_region::Cutting;
-use crate::running::regions::{make_regions, settle_one_by_one};
+use crate::running::deques::{ReadyWorkers, deal_regions, make_workers};
+use crate::running::list_region::{Cutting, ListRegion};
+use crate::running::regions::make_regions;
 use crate::running::replies::replies_for_all;
 use crate::running::settled_list::SettledList;
-use crate::running::shift::WorkShift;
+use crate::running::shift::Notes;
+use crate::running::taker::Sharing;
 use crate::running::tally::{Done, count_up, in_order, take_apart};
 use crate::running::threads::run_all;
 use reg_account::Account;
 use reg_base::{Batch, NoMemory};
 use reg_claim::{ClaimTable, Seat};
+use reg_deques::{Owner, Pass, Yard};
 use reg_rules::{Reply, Setting, step_laws};
 use std::alloc::Global;
 use std::marker::Brand;
@@ -43,6 +44,7 @@ mod regions;
 mod replies;
 pub(crate) mod settled_list;
 pub(crate) mod shift;
+mod taker;
 mod tally;
 mod threads;
 pub(crate) mod whole;
@@ -50,23 +52,23 @@ mod worker;
 
 /// What workers made of lists of accounts.
 #[derive(Drop)]
-pub(crate) struct SettledLists {
+pub(crate) struct SettledLists<N> {
     /// The lists, in their order.
     pub(crate) lists: Vec<Vec<Account>>,
     /// The replies, in the order of the batch.
     pub(crate) replies: Vec<Reply>,
-    /// What each worker carried out, from worker 0 on.
-    pub(crate) shifts: Vec<WorkShift>,
+    /// What each worker noted, from worker 0 on.
+    pub(crate) notes: Vec<N>,
 }
 
 /// Carries out the instructions of regions, each of which is a list of accounts, by workers that steal regions from one
 /// another. The calling thread is the last worker, and each of the others has a thread of its own where one can be
-/// started. If there is only one worker, or one region with instructions, they are carried out by the calling thread as
-/// worker 0.
+/// started. If there is only one region with instructions, worker 0 alone carries them out, which is the calling thread
+/// then.
 ///
 /// # Errors
 /// `NoMemory` if memory ran out. The lists are dropped then, and all threads have ended.
-pub(crate) fn settle_lists<R: Threads + Sync, G: PlaceGate>(
+pub(crate) fn settle_lists<N: Notes + Send, R: Threads + Sync, G: PlaceGate>(
     rt: &R,
     alloc: Global,
     setting: &Setting,
@@ -75,7 +77,7 @@ pub(crate) fn settle_lists<R: Threads + Sync, G: PlaceGate>(
     lists: Vec<Vec<Account>>,
     workers: u32,
     gate: &G,
-) -> Result<SettledLists, NoMemory>
+) -> Result<SettledLists<N>, NoMemory>
     requires workers { (1 ≤ workers) × (workers ≤ 8) }
     requires rules { AreRules setting.now.rules }
     requires ready { IsReady (batch.now.base + 1) (joined_lists lists.items) }
@@ -84,16 +86,14 @@ pub(crate) fn settle_lists<R: Threads + Sync, G: PlaceGate>(
     ensures settled { IfOk result (λ s. AreSettledOnce setting.now batch.now (joined_lists lists.items)
         (joined_lists s.lists.items) s.replies.items) }
     ensures sizes { IfOk result (λ s. sizes_of s.lists.items ≡ sizes_of lists.items) }
-    ensures shifts { IfOk result (λ s. AreShiftsOf workers (length batch.now.instructions) s.shifts.items) }
+    ensures notes { IfOk result
+        (λ s. AreNotesOf N.worker N.keeps N.places workers (length batch.now.instructions) s.notes.items) }
 {
     let Some(count) = count_of(&lists) else {
         return Err(NoMemory);
     };
-    if workers < 2 || are_few(&deals) {
-        return settle_alone::<Brand, G>(alloc, setting, batch, deals, lists, workers, gate);
-    }
     let (table, seat) = new_table(alloc, count)?;
-    settle_by_workers::<Brand, R, G>(
+    settle_by_workers::<Brand, N, R, G>(
         rt, alloc, setting, batch, deals, lists, table, seat, workers, gate,
     )
 }
@@ -116,6 +116,19 @@ fn new_table(alloc: Global, count: u32) -> Result<(ClaimTable, Seat), NoMemory>
     }
 }
 
+// How many workers there are regions for: one, or all.
+fn crew_for(deals: &[Deal], workers: u32) -> u32
+    requires { 1 ≤ workers }
+    ensures some { 1 ≤ result }
+    ensures few { result ≤ workers }
+{
+    if are_few(deals) {
+        workers.min(1)
+    } else {
+        workers
+    }
+}
+
 // Whether fewer than two regions have instructions.
 fn are_few(deals: &[Deal]) -> bool {
     let mut busy = false;
@@ -130,54 +143,28 @@ fn are_few(deals: &[Deal]) -> bool {
     true
 }
 
-// Settles the regions one after another, as worker 0. The other workers have empty shifts.
-fn settle_alone<C: Cutting, G: PlaceGate>(
+// The notes of the first workers, and those of the others up to so many, who carried out nothing.
+fn with_idle<N: Notes>(
     alloc: Global,
-    setting: &Setting,
-    batch: &Batch,
-    deals: Vec<Deal>,
-    lists: Vec<Vec<Account>>,
+    crew: u32,
     workers: u32,
-    gate: &G,
-) -> Result<SettledLists, NoMemory>
-    requires workers { 1 ≤ workers }
-    requires openings { C.openings ≡ region_openings lists.items }
-    requires deals { C.deals ≡ deals.items }
-    requires ground { IsGround setting.now batch.now C.openings C.deals }
-    requires each_once { AreDealtOnce batch.now C.deals }
-    requires few { vec_len lists < 2 ^ 32 }
-    ensures settled { IfOk result (λ s. AreSettledOnce setting.now batch.now (joined_lists lists.items)
-        (joined_lists s.lists.items) s.replies.items) }
-    ensures sizes { IfOk result (λ s. sizes_of s.lists.items ≡ sizes_of lists.items) }
-    ensures shifts { IfOk result (λ s. AreShiftsOf workers (length batch.now.instructions) s.shifts.items) }
+    notes: Vec<N>,
+) -> Result<Vec<N>, NoMemory>
+    requires few { crew ≤ workers }
+    requires crew { map N.worker notes.items ≡ first_numbers crew }
+    ensures workers { IfOk result (λ all. map N.worker all.items ≡ first_numbers workers) }
+    ensures times { IfOk result
+        (λ all. (p : ℕ) → times_noted N.places p all.items ≡ times_noted N.places p notes.items) }
 {
-    step_laws();
-    let regions = make_regions::<C>(alloc, deals, lists)?;
-    let mut shift = WorkShift::begin(alloc, 0);
-    let settled = settle_one_by_one(alloc, setting, batch, gate, &mut shift, regions)?;
-    let shifts = shifts_with(alloc, workers, shift)?;
-    let slots = replies_for_all(alloc, batch.len())?;
-    let all = take_apart(alloc, settled, shifts, slots)?;
+    let mut all = notes;
+    for worker in crew..workers {
+        all.push(N::begin(alloc, worker))?;
+    }
     Ok(all)
 }
 
-// The shifts of so many workers, of which the first has this one, and the others carried out nothing.
-fn shifts_with(alloc: Global, workers: u32, first: WorkShift) -> Result<Vec<WorkShift>, NoMemory>
-    requires some { 1 ≤ workers }
-    requires first { first.worker ≡ 0 }
-    ensures workers { IfOk result (λ shifts. shift_workers shifts.items ≡ first_numbers workers) }
-    ensures times { IfOk result (λ shifts. (p : ℕ) → times_in_shifts p shifts.items ≡ times p first.places.items) }
-{
-    let mut shifts = Vec::with_capacity(alloc, workers as usize)?;
-    shifts.push(first)?;
-    for worker in 1..workers {
-        shifts.push(WorkShift::begin(alloc, worker))?;
-    }
-    Ok(shifts)
-}
-
 // Settles the regions by workers, each of which has a deque, and by a claim table.
-fn settle_by_workers<C: Cutting + Send + Sync, R: Threads + Sync, G: PlaceGate>(
+fn settle_by_workers<C: Cutting + Send + Sync, N: Notes + Send, R: Threads + Sync, G: PlaceGate>(
     rt: &R,
     alloc: Global,
     setting: &Setting,
@@ -188,9 +175,9 @@ fn settle_by_workers<C: Cutting + Send + Sync, R: Threads + Sync, G: PlaceGate>(
     seat: Seat,
     workers: u32,
     gate: &G,
-) -> Result<SettledLists, NoMemory>
-    requires workers { workers ≤ 8 }
-    requires table { (table_id table ≡ C.table) × (places table ≡ vec_len lists) × (seat_table seat ≡ C.table) }
+) -> Result<SettledLists<N>, NoMemory>
+    requires workers { (1 ≤ workers) × (workers ≤ 8) }
+    requires table { (places table ≡ vec_len lists) × (seat_table seat ≡ table_id table) }
     requires fresh { known seat ≡ fresh }
     requires openings { C.openings ≡ region_openings lists.items }
     requires deals { C.deals ≡ deals.items }
@@ -200,24 +187,68 @@ fn settle_by_workers<C: Cutting + Send + Sync, R: Threads + Sync, G: PlaceGate>(
     ensures settled { IfOk result (λ s. AreSettledOnce setting.now batch.now (joined_lists lists.items)
         (joined_lists s.lists.items) s.replies.items) }
     ensures sizes { IfOk result (λ s. sizes_of s.lists.items ≡ sizes_of lists.items) }
-    ensures shifts { IfOk result (λ s. AreShiftsOf workers (length batch.now.instructions) s.shifts.items) }
+    ensures notes { IfOk result
+        (λ s. AreNotesOf N.worker N.keeps N.places workers (length batch.now.instructions) s.notes.items) }
 {
     step_laws();
     let count = lists.len() as u32;
+    let crew = crew_for(&deals, workers);
     let regions = make_regions::<C>(alloc, deals, lists)?;
-    let mut deques = make_deques(alloc, workers)?;
-    let stealers = make_stealers(alloc, &deques)?;
-    deal_regions(regions, &mut deques)?;
-    let crew = make_workers(alloc, &table, seat, deques)?;
+    let (yard, owners, passes) = Yard::new(alloc, crew)?;
+    let done = run_dealt::<C, Brand, N, R, G>(
+        rt, alloc, setting, batch, count, table, seat, regions, yard, owners, passes, gate,
+    )?;
+    let Done { settled, notes } = done;
+    let notes = with_idle(alloc, crew, workers, notes)?;
+    let settled = in_order(settled);
+    let slots = replies_for_all(alloc, batch.len())?;
+    let all = take_apart(alloc, settled, notes, slots)?;
+    Ok(all)
+}
+
+// Deals regions to the deques of workers, lets these run them, and counts up what they did.
+fn run_dealt<
+    C: Cutting + Send + Sync,
+    S: Sharing + Send + Sync,
+    N: Notes + Send,
+    R: Threads + Sync,
+    G: PlaceGate,
+>(
+    rt: &R,
+    alloc: Global,
+    setting: &Setting,
+    batch: &Batch,
+    count: u32,
+    table: ClaimTable,
+    seat: Seat,
+    regions: Vec<ListRegion<C>>,
+    yard: Yard<ListRegion<C>>,
+    owners: Vec<Owner<ListRegion<C>>>,
+    passes: Vec<Pass<ListRegion<C>>>,
+    gate: &G,
+) -> Result<Done<N>, NoMemory>
+    requires ground { IsGround setting.now batch.now C.openings C.deals }
+    requires count { count ≡ length C.openings }
+    requires table { (table_id table ≡ S.table) × (places table ≡ count) × (seat_table seat ≡ S.table) }
+    requires fresh { known seat ≡ fresh }
+    requires yard { deques yard ≡ S.deques }
+    requires passes { All (λ p. deques_of_pass p ≡ S.deques) passes.items }
+    requires few { vec_len passes ≤ 8 }
+    ensures settled { IfOk result (λ done. AreSettled setting.now batch.now C.openings C.deals done.settled.items) }
+    ensures each { IfOk result
+        (λ done. (p : ℕ) → times p (numbers_of done.settled.items) ≡ once (length C.openings) p) }
+    ensures workers { IfOk result (λ done. map N.worker done.notes.items ≡ map worker_of passes.items) }
+    ensures times { IfOk result (λ done. (p : ℕ) → times_noted N.places p done.notes.items
+        ≡ times p (kept N.keeps (settled_places done.settled.items))) }
+{
+    let mut owners = owners;
+    deal_regions(regions, &mut owners)?;
+    let begun: ReadyWorkers<ListRegion<C>, S> = make_workers(alloc, &table, seat, owners, passes)?;
     let ReadyWorkers {
         seat: rest,
         workers: ready,
-    } = crew;
-    let ended = run_all(rt, alloc, setting, batch, &table, &stealers, gate, ready)?;
+    } = begun;
+    let ended = run_all(rt, alloc, setting, batch, &table, &yard, gate, ready)?;
     let done = count_up(alloc, count, table, rest, ended)?;
-    let Done { settled, shifts } = done;
-    let settled = in_order(settled);
-    let slots = replies_for_all(alloc, batch.len())?;
-    let all = take_apart(alloc, settled, shifts, slots)?;
-    Ok(all)
+    Ok(done)
 }

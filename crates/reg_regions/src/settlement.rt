@@ -12,6 +12,7 @@ ghost use Rattle.reg_book.specs.Settled.{committed};
 ghost use Rattle.reg_regions.specs.Outcomes.{may_work, AreShiftsOf, IsRegionsFault, handed_back};
 ghost use Rattle.reg_regions.specs.Dealing.{AreTurned};
 ghost use Rattle.reg_regions.specs.Lists.{joined_lists};
+ghost use Rattle.reg_regions.specs.Stealing.{AreNotesOf};
 
 use crate::admission::admit;
 use crate::advice::advise;
@@ -21,7 +22,7 @@ use crate::exchange::swap_back;
 use crate::gate::PlaceGate;
 use crate::laws::regions_are_a_day;
 use crate::not_settled::{NotSettled, RegionsFault};
-use crate::running::shift::WorkShift;
+use crate::running::shift::{NoShift, Notes, WorkShift};
 use crate::running::whole::settle_whole;
 use crate::running::{SettledLists, settle_lists};
 use reg_account::Account;
@@ -86,14 +87,11 @@ pub fn settle_regions<R: Threads + Sync, G: PlaceGate>(
     Ok(settle_book(rt, alloc, parts, rules, batch, workers, gate)?)
 }
 
-fn is_allowed(workers: u32) -> bool
-    ensures { result ≡ may_work workers }
-{
-    (1..=MOST_WORKERS).contains(&workers)
-}
-
-// Settles a batch, which begins with the book's next record number, by workers whose number is within its limits.
-fn settle_book<R: Threads + Sync, G: PlaceGate>(
+/// The same, but no shift is built.
+///
+/// # Errors
+/// As [`settle_regions`].
+pub fn settle_without_shifts<R: Threads + Sync, G: PlaceGate>(
     rt: &R,
     alloc: Global,
     parts: Parts,
@@ -101,13 +99,49 @@ fn settle_book<R: Threads + Sync, G: PlaceGate>(
     batch: &Batch,
     workers: u32,
     gate: &G,
-) -> Result<(ClosedParts, Vec<WorkShift>), NoMemory>
+) -> Result<ClosedParts, NotSettled>
+    ensures closed { MatchResult result
+        (λ closed. (may_work workers ≡ true) × (batch.now.base + 1 ≡ parts.next)
+        × (closed.parts ≡ committed parts (settled_day (day_of parts rules.now batch.now))))
+        (λ e. IsRegionsFault workers parts batch.now e.fault) }
+    ensures replies { IfOk result
+        (λ closed. closed.replies.items ≡ replies_of (day_of parts rules.now batch.now)) }
+    ensures back { IfErr result (λ e. e.parts ≡ handed_back e.fault parts) }
+{
+    if !is_allowed(workers) {
+        return Err(NotSettled::with_book(RegionsFault::Workers, parts));
+    }
+    let next = parts.next_record();
+    if batch.base() + 1 != next {
+        return Err(NotSettled::with_book(RegionsFault::WrongBase { next }, parts));
+    }
+    let (closed, _) = settle_book::<NoShift, R, G>(rt, alloc, parts, rules, batch, workers, gate)?;
+    Ok(closed)
+}
+
+fn is_allowed(workers: u32) -> bool
+    ensures { result ≡ may_work workers }
+{
+    (1..=MOST_WORKERS).contains(&workers)
+}
+
+// Settles a batch, which begins with the book's next record number, by workers whose number is within its limits.
+fn settle_book<N: Notes + Send, R: Threads + Sync, G: PlaceGate>(
+    rt: &R,
+    alloc: Global,
+    parts: Parts,
+    rules: &Rules,
+    batch: &Batch,
+    workers: u32,
+    gate: &G,
+) -> Result<(ClosedParts, Vec<N>), NoMemory>
     requires follows { batch.now.base + 1 ≡ parts.next }
     requires workers { may_work workers ≡ true }
     ensures parts { IfOk result
         (λ c. c.0.parts ≡ committed parts (settled_day (day_of parts rules.now batch.now))) }
     ensures replies { IfOk result (λ c. c.0.replies.items ≡ replies_of (day_of parts rules.now batch.now)) }
-    ensures shifts { IfOk result (λ c. AreShiftsOf workers (length batch.now.instructions) c.1.items) }
+    ensures notes { IfOk result
+        (λ c. AreNotesOf N.worker N.keeps N.places workers (length batch.now.instructions) c.1.items) }
 {
     rules.are_within_limits();
     step_laws();
@@ -128,10 +162,10 @@ fn settle_book<R: Threads + Sync, G: PlaceGate>(
     let SettledLists {
         lists: left,
         replies,
-        shifts,
+        notes,
     } = settled;
     let parts = Parts::of_lists(left, directory, next + u64::from(count));
-    Ok((ClosedParts { parts, replies }, shifts))
+    Ok((ClosedParts { parts, replies }, notes))
 }
 
 // How many regions are wanted: a single worker wants no more than there are, and nobody more than instructions.
@@ -144,7 +178,7 @@ fn regions_wanted(workers: u32, instructions: u32) -> usize {
 
 // Carries out the instructions by regions, or as those of one region if they can't be dealt out. A book in fewer lists
 // than regions are wanted is cut before.
-fn settle_by_advice<R: Threads + Sync, G: PlaceGate>(
+fn settle_by_advice<N: Notes + Send, R: Threads + Sync, G: PlaceGate>(
     rt: &R,
     alloc: Global,
     setting: &Setting,
@@ -152,7 +186,7 @@ fn settle_by_advice<R: Threads + Sync, G: PlaceGate>(
     lists: Vec<Vec<Account>>,
     workers: u32,
     gate: &G,
-) -> Result<SettledLists, NoMemory>
+) -> Result<SettledLists<N>, NoMemory>
     requires workers { (1 ≤ workers) × (workers ≤ 8) }
     requires rules { AreRules setting.now.rules }
     requires ready { IsReady (batch.now.base + 1) (joined_lists lists.items) }
@@ -161,7 +195,8 @@ fn settle_by_advice<R: Threads + Sync, G: PlaceGate>(
     requires directory { setting.now.directory ≡ directory_of (joined_lists lists.items) }
     ensures turned { IfOk result
         (λ s. AreTurned setting.now batch.now (joined_lists lists.items) (joined_lists s.lists.items) s.replies.items) }
-    ensures shifts { IfOk result (λ s. AreShiftsOf workers (length batch.now.instructions) s.shifts.items) }
+    ensures notes { IfOk result
+        (λ s. AreNotesOf N.worker N.keeps N.places workers (length batch.now.instructions) s.notes.items) }
 {
     let cut = cut_lists(alloc, lists, regions_wanted(workers, batch.len()))?;
     let advice = advise(rt, alloc, &cut, batch, workers);

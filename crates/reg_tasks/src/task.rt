@@ -14,6 +14,7 @@ use crate::run::{are_behind, carry_out, number_of, pack, pack_after, unpack};
 use reg_base::NoMemory;
 use reg_base::laws::{each_footprint_is_sound, last_toucher_is_last};
 use reg_book::{each_is_a_step, stays_ready, value_is_last_touchers};
+use reg_deques::Numbered;
 use reg_plan::laws::tails_are_last_touchers;
 use reg_rules::step_laws;
 use std::alloc::Global;
@@ -25,6 +26,11 @@ pub struct Task<N: Naming> {
     place: u32,
     parcels: Vec<Parcel<N>>,
     pub ghost complete: { AreComplete N.day place (names_of parcels.items) },
+}
+
+// In a deque it counts as its place.
+impl<N: Naming> Numbered for Task<N> {
+    ghost number = { λ t. t.place };
 }
 
 impl<N: Naming> Task<N> {

@@ -6,14 +6,14 @@ use Rattle.reg_tasks.specs.declared.last_parcel.LastParcel.{LastParcel}
 use Rattle.reg_work.specs.declared.shared.SharedIds.{Ghosts as IdGhosts}
 use Rattle.reg_work.specs.declared.work_loop.EndedWorker.{EndedWorker}
 
-module _ {N I : Type 0} {n : Ghosts N} {i : IdGhosts I} where
+module _ {T N I : Type 0} {t : _} {n : Ghosts N} {i : IdGhosts I} where
   -- their numbers
-  abbrev pub ended_numbers : List (EndedWorker N I n i) → List ℕ
+  abbrev pub ended_numbers : List (EndedWorker T N I t n i) → List ℕ
   ended_numbers ended_workers = map (λ s. s.number) ended_workers
 
   -- what is kept of the instructions that they ran, and the last values, worker by worker
-  abbrev pub all_done : List (EndedWorker N I n i) → List (Done N n)
+  abbrev pub all_done : List (EndedWorker T N I t n i) → List (Done N n)
   all_done ended_workers = flat_map (λ s. s.worker.done.items) ended_workers
 
-  abbrev pub all_closing : List (EndedWorker N I n i) → List (LastParcel N n)
+  abbrev pub all_closing : List (EndedWorker T N I t n i) → List (LastParcel N n)
   all_closing ended_workers = flat_map (λ s. s.worker.closing.items) ended_workers

@@ -5,6 +5,7 @@ ghost use Rattle.reg_claim.specs.Seats.{table_id, places};
 ghost use Rattle.reg_deques.specs.Yards.{deques};
 
 use reg_claim::ClaimTable;
+use reg_deques::Numbered;
 use reg_tasks::{Context, Naming};
 use reg_yard::{Docks, Yard};
 use std::marker::{Brand, PhantomData};
@@ -38,11 +39,11 @@ impl SharedIds for Brand {
 /// What the workers of a call share: the day, its docks, who claimed what, the deques of all workers, and how many
 /// places of the day were opened.
 #[derive(Drop)]
-pub(crate) struct Shared<'c, N: Naming, I: SharedIds> {
+pub(crate) struct Shared<'c, T: Numbered, N: Naming, I: SharedIds> {
     pub(crate) context: &'c Context<'c, N>,
     pub(crate) docks: Docks<'c, 'c, N>,
     pub(crate) table: ClaimTable,
-    pub(crate) yard: Yard<N>,
+    pub(crate) yard: Yard<T>,
     pub(crate) opened: AtomicU32,
     pub(crate) of: PhantomData<I>,
     pub(crate) ghost counted: { length context.now.batch.now.instructions ≡ I.count },

@@ -25,7 +25,7 @@ use crate::worker::Worker;
 use reg_base::{Batch, Rules};
 use reg_book::{Book, Settled};
 use reg_claim::{ClaimTable, Seat};
-use reg_tasks::{Context, Gate, Lack, Naming};
+use reg_tasks::{Context, Gate, Lack, Naming, Task};
 use reg_yard::{Docks, Owner, Pass, Yard};
 use std::alloc::Global;
 use std::marker::{Brand, PhantomData};
@@ -38,9 +38,9 @@ fn make_workers<N: Naming, I: SharedIds>(
     alloc: Global,
     table: &ClaimTable,
     seat: Seat,
-    owners: Vec<Owner<N>>,
-    passes: Vec<Pass<N>>,
-) -> Result<(Seat, Vec<Worker<N, I>>), Lack>
+    owners: Vec<Owner<Task<N>>>,
+    passes: Vec<Pass<Task<N>>>,
+) -> Result<(Seat, Vec<Worker<Task<N>, N, I>>), Lack>
     requires table { (table_id table.now ≡ I.table) × (seat_table seat ≡ I.table) }
     requires fresh { ((known seat).stake ≡ 16) × ((known seat).finished ≡ []) × ((known seat).seen ≡ 0) }
     requires few { (vec_len passes ≤ 8) × (vec_len owners ≡ vec_len passes) }
@@ -80,9 +80,9 @@ fn run_workers<
     docks: Docks<'c, 'c, N>,
     table: ClaimTable,
     seat: Seat,
-    yard: Yard<N>,
-    owners: Vec<Owner<N>>,
-    passes: Vec<Pass<N>>,
+    yard: Yard<Task<N>>,
+    owners: Vec<Owner<Task<N>>>,
+    passes: Vec<Pass<Task<N>>>,
     gate: &G,
 ) -> Result<Work<N>, Shortage>
     requires count { length context.now.batch.now.instructions ≡ I.count }
@@ -95,11 +95,11 @@ fn run_workers<
     ensures shifts { IfOk result (λ w. AreShifts (vec_len passes) I.count w.shifts.items) }
     ensures each_done { IfOk result (λ w. (p : ℕ) → times p (places_of w.done.items) ≡ once I.count p) }
 {
-    let (rest, mut unstarted): (Seat, Vec<Worker<N, I>>) = make_workers(
+    let (rest, mut unstarted): (Seat, Vec<Worker<Task<N>, N, I>>) = make_workers(
         alloc, &table, seat, owners, passes,
     )?;
     let last = unstarted.pop().unwrap();
-    let shared: Shared<'_, N, I> = Shared {
+    let shared: Shared<'_, Task<N>, N, I> = Shared {
         context,
         docks,
         table,

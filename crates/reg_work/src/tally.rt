@@ -15,7 +15,7 @@ use crate::work_loop::EndedWorker;
 use crate::worker::Worker;
 use reg_base::NoMemory;
 use reg_claim::{ClaimTable, Seat};
-use reg_tasks::{Done, Lack, LastParcel, Naming, Ran};
+use reg_tasks::{Done, Lack, LastParcel, Naming, Ran, Task};
 use std::alloc::Global;
 
 /// What all workers did: who ran what, the replies, and the values that no other instruction needs, worker by worker.
@@ -102,7 +102,7 @@ pub(crate) fn count_up<N: Naming, I: SharedIds>(
     alloc: Global,
     table: ClaimTable,
     seat: Seat,
-    ended_workers: Vec<EndedWorker<N, I>>,
+    ended_workers: Vec<EndedWorker<Task<N>, N, I>>,
 ) -> Result<Work<N>, Lack>
     requires table { (table_id table ≡ I.table) × (places table ≡ I.count) × (seat_table seat ≡ I.table) }
     requires stake { (known seat).stake + vec_len ended_workers ≡ 16 }

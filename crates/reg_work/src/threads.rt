@@ -9,7 +9,8 @@ use crate::fault::Shortage;
 use crate::shared::{Shared, SharedIds};
 use crate::work_loop::{EndedWorker, work};
 use crate::worker::Worker;
-use reg_tasks::{Gate, Naming};
+use reg_deques::Numbered;
+use reg_tasks::{Gate, Naming, Task};
 use std::alloc::Global;
 use std::sync::Wait;
 use std::thread;
@@ -21,11 +22,11 @@ pub(crate) struct EndOf {
     number: u32,
 }
 
-impl<N: Naming, I: SharedIds> Promise<EndedWorker<N, I>> for EndOf {
+impl<T: Numbered, N: Naming, I: SharedIds> Promise<EndedWorker<T, N, I>> for EndOf {
     ghost kept_by = { λ promise ended_worker. ended_worker.number ≡ promise.number };
 }
 
-type Handle<N, I> = PromisedHandle<EndedWorker<N, I>, EndOf>;
+type Handle<N, I> = PromisedHandle<EndedWorker<Task<N>, N, I>, EndOf>;
 
 // Starts a thread for each worker, from worker 0 on, until one cannot be started. There is room for their handles.
 fn start_all<
@@ -40,9 +41,9 @@ fn start_all<
     scope: &Scope<'s, E>,
     rt: &'s R,
     alloc: Global,
-    shared: &'s Shared<'b, N, I>,
+    shared: &'s Shared<'b, Task<N>, N, I>,
     gate: &'s G,
-    unstarted: Vec<Worker<N, I>>,
+    unstarted: Vec<Worker<Task<N>, N, I>>,
     handles: &mut Vec<Handle<N, I>>,
 ) -> Result<(), Shortage>
     requires none { handles.old.items ≡ [] }
@@ -58,7 +59,7 @@ fn start_all<
         let number = next;
         let started = scope.spawn_with(
             EndOf { number },
-            move || -> EndedWorker<N, I>
+            move || -> EndedWorker<Task<N>, N, I>
                 ensures { result.number ≡ number }
             { work(rt, alloc, shared, gate, number, worker) },
         );
@@ -75,7 +76,7 @@ fn start_all<
 fn join_all<N: Naming, I: SharedIds, R: Threads>(
     rt: &R,
     handles: Vec<Handle<N, I>>,
-    ended_workers: &mut Vec<EndedWorker<N, I>>,
+    ended_workers: &mut Vec<EndedWorker<Task<N>, N, I>>,
 )
     requires none { ended_workers.old.items ≡ [] }
     requires room { vec_len handles + 1 ≤ vec_capacity ended_workers.old }
@@ -109,11 +110,11 @@ pub(crate) fn run_in_threads<
 >(
     rt: &R,
     alloc: Global,
-    shared: &Shared<'_, N, I>,
+    shared: &Shared<'_, Task<N>, N, I>,
     gate: &G,
-    unstarted: Vec<Worker<N, I>>,
-    last: Worker<N, I>,
-) -> Result<Vec<EndedWorker<N, I>>, Shortage>
+    unstarted: Vec<Worker<Task<N>, N, I>>,
+    last: Worker<Task<N>, N, I>,
+) -> Result<Vec<EndedWorker<Task<N>, N, I>>, Shortage>
     requires few { vec_len unstarted ≤ 7 }
     ensures workers { IfOk result
         (λ ended_workers. ended_numbers ended_workers.items ≡ numbers_below (vec_len unstarted + 1)) }
@@ -123,7 +124,7 @@ pub(crate) fn run_in_threads<
     thread::scope(
         thread::scope_env(),
         rt,
-        move |scope| -> Result<Vec<EndedWorker<N, I>>, Shortage>
+        move |scope| -> Result<Vec<EndedWorker<Task<N>, N, I>>, Shortage>
             requires few { vec_len unstarted ≤ 7 }
             requires number { count ≡ vec_len unstarted }
             ensures workers { IfOk result

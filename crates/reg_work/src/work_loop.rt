@@ -7,6 +7,7 @@ ghost use Rattle.reg_work.specs.Ends.{sees_end};
 use crate::shared::{Shared, SharedIds};
 use crate::worker::Worker;
 use crossbeam_utils::Backoff;
+use reg_deques::Numbered;
 use reg_tasks::{Gate, Lack, Naming, Task};
 use std::alloc::Global;
 use std::sync::Wait;
@@ -20,9 +21,9 @@ const NAP: u64 = 50;
 /// A worker at its end: it has seen that all is done, or that the workers are to leave. If it told them to, it says
 /// what it lacked.
 #[derive(Drop)]
-pub(crate) struct EndedWorker<N: Naming, I: SharedIds> {
+pub(crate) struct EndedWorker<T: Numbered, N: Naming, I: SharedIds> {
     pub(crate) number: u32,
-    pub(crate) worker: Worker<N, I>,
+    pub(crate) worker: Worker<T, N, I>,
     pub(crate) lack: Option<Lack>,
     pub(crate) ghost over: { sees_end I.count (known worker.seat) ≡ true },
 }
@@ -31,10 +32,10 @@ pub(crate) struct EndedWorker<N: Naming, I: SharedIds> {
 fn run_task<N: Naming, I: SharedIds, R: Wait, G: Gate>(
     rt: &R,
     alloc: Global,
-    shared: &Shared<'_, N, I>,
+    shared: &Shared<'_, Task<N>, N, I>,
     gate: &G,
     number: u32,
-    worker: &mut Worker<N, I>,
+    worker: &mut Worker<Task<N>, N, I>,
     task: Task<N>,
 ) -> Result<(), Lack> {
     let Some(mut execution) = worker.run(alloc, shared, gate, number, task)? else {
@@ -49,8 +50,8 @@ fn run_task<N: Naming, I: SharedIds, R: Wait, G: Gate>(
 fn find<N: Naming, I: SharedIds, R: Wait>(
     rt: &R,
     alloc: Global,
-    shared: &Shared<'_, N, I>,
-    worker: &mut Worker<N, I>,
+    shared: &Shared<'_, Task<N>, N, I>,
+    worker: &mut Worker<Task<N>, N, I>,
 ) -> Result<Option<Task<N>>, Lack> {
     let own = worker.take_own();
     if own.is_some() {
@@ -75,10 +76,10 @@ fn find<N: Naming, I: SharedIds, R: Wait>(
 fn step<N: Naming, I: SharedIds, R: Wait, G: Gate>(
     rt: &R,
     alloc: Global,
-    shared: &Shared<'_, N, I>,
+    shared: &Shared<'_, Task<N>, N, I>,
     gate: &G,
     number: u32,
-    worker: &mut Worker<N, I>,
+    worker: &mut Worker<Task<N>, N, I>,
 ) -> Result<bool, Lack> {
     let Some(task) = find(rt, alloc, shared, worker)? else {
         return Ok(false);
@@ -102,11 +103,11 @@ fn pause<R: Wait>(rt: &R, backoff: &Backoff) {
 pub(crate) fn work<N: Naming, I: SharedIds, R: Wait, G: Gate>(
     rt: &R,
     alloc: Global,
-    shared: &Shared<'_, N, I>,
+    shared: &Shared<'_, Task<N>, N, I>,
     gate: &G,
     number: u32,
-    worker: Worker<N, I>,
-) -> EndedWorker<N, I>
+    worker: Worker<Task<N>, N, I>,
+) -> EndedWorker<Task<N>, N, I>
     ensures { result.number ≡ number }
 {
     let mut worker = worker;

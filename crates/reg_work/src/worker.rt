@@ -10,9 +10,9 @@ use crate::execution::Execution;
 use crate::shared::{Shared, SharedIds};
 use reg_base::NoMemory;
 use reg_claim::Seat;
-use reg_schedules::MOST_WORKERS;
+use reg_deques::Numbered;
 use reg_tasks::{Done, Gate, Lack, LastParcel, Naming, Parcel, Ran, Task};
-use reg_yard::{Owner, Pass};
+use reg_yard::{Owner, Pass, Steal};
 use std::alloc::Global;
 use std::marker::PhantomData;
 use std::sync::Wait;
@@ -21,11 +21,11 @@ use std::sync::atomic::Ordering;
 // So many places are opened at once. The values of so many instructions are still near the processor when they are run.
 const AT_ONCE: u32 = 32;
 
-/// A worker: its deque, what it knows of the others, its seat, and what it did.
+/// A worker: its deque of tasks, what it knows of the others, its seat, and what it did.
 #[derive(Drop)]
-pub(crate) struct Worker<N: Naming, I: SharedIds> {
-    pub(crate) owner: Owner<N>,
-    pub(crate) pass: Pass<N>,
+pub(crate) struct Worker<T: Numbered, N: Naming, I: SharedIds> {
+    pub(crate) owner: Owner<T>,
+    pub(crate) pass: Pass<T>,
     pub(crate) seat: Seat,
     pub(crate) ran: Vec<Ran<N>>,
     pub(crate) done: Vec<Done<N>>,
@@ -38,8 +38,8 @@ pub(crate) struct Worker<N: Naming, I: SharedIds> {
     pub(crate) ghost deques_are: { deques_of_pass pass ≡ I.deques },
 }
 
-impl<N: Naming, I: SharedIds> Worker<N, I> {
-    ghost use Rattle.std.specs.Prelude.{◌≢◌, ◌⊎◌, ℕ, true, false, Some, ◌++◌, ◌∷◌, IfOk, IfSome, IfNone, OnOk};
+impl<N: Naming, I: SharedIds> Worker<Task<N>, N, I> {
+    ghost use Rattle.std.specs.Prelude.{◌⊎◌, true, false, Some, ◌++◌, ◌∷◌, IfOk, IfSome, IfNone, OnOk};
     ghost use Rattle.std.specs.Option.{option_map};
     ghost use Rattle.reg_plan.specs.Plans.{inward};
     ghost use Rattle.reg_tasks.specs.Contexts.{the_day};
@@ -52,14 +52,19 @@ impl<N: Naming, I: SharedIds> Worker<N, I> {
     ghost use Rattle.reg_deques.specs.Views.{with_put};
     ghost use Rattle.reg_deques.specs.Steps.{TakesOwn};
     ghost use Rattle.reg_deques.specs.Passes.{owned};
-    ghost use Rattle.reg_deques.specs.Yards.{views, StealsAt};
+    ghost use Rattle.reg_deques.specs.Yards.{views, StealsAny};
     ghost use Rattle.reg_yard.specs.Parcels.{parcel_of, goes_to};
     ghost use Rattle.reg_work.specs.Ends.{sees_end};
     ghost use Rattle.reg_work.specs.Frames.{OwnerAlone, PassAlone, SeatAlone};
     ghost use Rattle.reg_work.specs.Handing.{IsDelivered, with_task};
     ghost use Rattle.reg_work.specs.Executions.{reply_at};
 
-    pub(crate) fn new(alloc: Global, owner: Owner<N>, pass: Pass<N>, seat: Seat) -> Worker<N, I>
+    pub(crate) fn new(
+        alloc: Global,
+        owner: Owner<Task<N>>,
+        pass: Pass<Task<N>>,
+        seat: Seat,
+    ) -> Worker<Task<N>, N, I>
         requires table { seat_table seat ≡ I.table }
         requires stake { (known seat).stake ≡ 1 }
         requires fresh { (known seat).finished ≡ [] }
@@ -80,7 +85,7 @@ impl<N: Naming, I: SharedIds> Worker<N, I> {
     }
 
     /// Whether all places are finished, or the workers are to leave.
-    pub(crate) fn is_over(&mut self, shared: &Shared<'_, N, I>) -> bool
+    pub(crate) fn is_over(&mut self, shared: &Shared<'_, Task<N>, N, I>) -> bool
         ensures over { result ≡ sees_end I.count (known self.new.seat) }
         ensures rest { SeatAlone self.old self.new }
     {
@@ -89,7 +94,7 @@ impl<N: Naming, I: SharedIds> Worker<N, I> {
     }
 
     /// Tells all workers to leave.
-    pub(crate) fn stop(&mut self, shared: &Shared<'_, N, I>)
+    pub(crate) fn stop(&mut self, shared: &Shared<'_, Task<N>, N, I>)
         ensures over { sees_end I.count (known self.new.seat) ≡ true }
         ensures rest { SeatAlone self.old self.new }
     {
@@ -105,7 +110,7 @@ impl<N: Naming, I: SharedIds> Worker<N, I> {
         &mut self,
         rt: &R,
         alloc: Global,
-        shared: &Shared<'_, N, I>,
+        shared: &Shared<'_, Task<N>, N, I>,
     ) -> Result<bool, Lack>
         ensures rest { OwnerAlone self.old self.new }
     {
@@ -126,7 +131,7 @@ impl<N: Naming, I: SharedIds> Worker<N, I> {
         &mut self,
         rt: &R,
         alloc: Global,
-        shared: &Shared<'_, N, I>,
+        shared: &Shared<'_, Task<N>, N, I>,
         place: u32,
     ) -> Result<(), Lack>
         requires place { IsPlaceOf shared.now.context.now.batch.now place }
@@ -163,7 +168,7 @@ impl<N: Naming, I: SharedIds> Worker<N, I> {
     fn deliver<R: Wait>(
         &mut self,
         rt: &R,
-        shared: &Shared<'_, N, I>,
+        shared: &Shared<'_, Task<N>, N, I>,
         parcel: Parcel<N>,
     ) -> Result<(), Lack>
         ensures rest { OwnerAlone self.old self.new }
@@ -199,24 +204,16 @@ impl<N: Naming, I: SharedIds> Worker<N, I> {
     }
 
     /// The first task of another worker's deque, in rising number.
-    pub(crate) fn steal(&mut self, shared: &Shared<'_, N, I>) -> Option<Task<N>>
+    pub(crate) fn steal(&mut self, shared: &Shared<'_, Task<N>, N, I>) -> Option<Task<N>>
         ensures rest { PassAlone self.old self.new }
         ensures some { IfSome result
-            (λ t. (from : ℕ) × (from ≢ self.old.pass.worker)
-            × StealsAt from (views self.old.pass) t.place (views self.new.pass)) }
+            (λ t. StealsAny self.old.pass.worker (views self.old.pass) t.place (views self.new.pass)) }
         ensures none { IfNone result (views self.new.pass ≡ views self.old.pass) }
     {
-        let own = self.pass.worker();
-        let workers = shared.yard.workers().min(MOST_WORKERS as usize) as u32;
-        for from in 0..workers {
-            if from != own {
-                let stolen = shared.yard.steal(&mut self.pass, from);
-                if stolen.is_some() {
-                    return stolen;
-                }
-            }
+        match shared.yard.steal_any(&mut self.pass) {
+            Steal::Success(task) => Some(task),
+            Steal::Empty | Steal::Retry => None,
         }
-        None
     }
 
     /// Claims the place of a task, then passes the gate and runs the task. If the place is claimed already, the task is
@@ -228,7 +225,7 @@ impl<N: Naming, I: SharedIds> Worker<N, I> {
     pub(crate) fn run<G: Gate>(
         &mut self,
         alloc: Global,
-        shared: &Shared<'_, N, I>,
+        shared: &Shared<'_, Task<N>, N, I>,
         gate: &G,
         worker: u32,
         task: Task<N>,
@@ -259,7 +256,7 @@ impl<N: Naming, I: SharedIds> Worker<N, I> {
     fn run_claimed<G: Gate>(
         &self,
         alloc: Global,
-        shared: &Shared<'_, N, I>,
+        shared: &Shared<'_, Task<N>, N, I>,
         gate: &G,
         worker: u32,
         task: Task<N>,
@@ -286,7 +283,7 @@ impl<N: Naming, I: SharedIds> Worker<N, I> {
     pub(crate) fn hand_on<R: Wait>(
         &mut self,
         rt: &R,
-        shared: &Shared<'_, N, I>,
+        shared: &Shared<'_, Task<N>, N, I>,
         execution: &mut Execution<N>,
     ) -> Result<(), Lack>
         ensures seat { self.new.seat ≡ self.old.seat }
@@ -306,7 +303,7 @@ impl<N: Naming, I: SharedIds> Worker<N, I> {
     fn hand_on_one<R: Wait>(
         &mut self,
         rt: &R,
-        shared: &Shared<'_, N, I>,
+        shared: &Shared<'_, Task<N>, N, I>,
         parcel: Parcel<N>,
     ) -> Result<(), Lack>
         ensures seat { self.new.seat ≡ self.old.seat }
@@ -324,7 +321,7 @@ impl<N: Naming, I: SharedIds> Worker<N, I> {
     }
 
     // Keeps a parcel that no dock awaits, if it is the last one of its account.
-    fn keep(&mut self, shared: &Shared<'_, N, I>, parcel: Parcel<N>) -> Result<(), Lack>
+    fn keep(&mut self, shared: &Shared<'_, Task<N>, N, I>, parcel: Parcel<N>) -> Result<(), Lack>
         ensures seat { self.new.seat ≡ self.old.seat }
         ensures work { (self.new.ran ≡ self.old.ran) × (self.new.done ≡ self.old.done) }
         ensures pass { self.new.pass ≡ self.old.pass }
@@ -347,7 +344,7 @@ impl<N: Naming, I: SharedIds> Worker<N, I> {
     /// `NoMemory` if memory ran out.
     pub(crate) fn finish(
         &mut self,
-        shared: &Shared<'_, N, I>,
+        shared: &Shared<'_, Task<N>, N, I>,
         execution: Execution<N>,
     ) -> Result<(), NoMemory>
         requires claimed { IsToFinish execution.ran.place (known self.old.seat) }

@@ -40,4 +40,4 @@ mod start;
 
 pub use dock::Dock;
 pub use docks::Docks;
-pub use reg_deques::{DequePass, DequeView, Owner, Pass, TicketView, Yard};
+pub use reg_deques::{DequePass, DequeView, Owner, Pass, Steal, TicketView, Yard};

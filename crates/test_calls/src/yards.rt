@@ -9,13 +9,18 @@ use crate::settling::context_of;
 use crate::stop::Stop;
 use crate::tasks::task_of;
 use reg_base::NoMemory;
+use reg_deques::Numbered;
 use reg_tasks::{Task, Unnamed};
 use reg_text::DayInput;
 use reg_yard::{Owner, Pass, Yard};
 use std::alloc::Global;
 use std::io::Write;
 
-type Made = (Yard<Unnamed>, Vec<Owner<Unnamed>>, Vec<Pass<Unnamed>>);
+type Made = (
+    Yard<Task<Unnamed>>,
+    Vec<Owner<Task<Unnamed>>>,
+    Vec<Pass<Task<Unnamed>>>,
+);
 
 // A yard of so many workers, if this is a number of workers.
 fn yard(alloc: Global, workers: u32) -> Option<Result<Made, NoMemory>> {
@@ -55,12 +60,12 @@ const MOST_TASKS: u32 = 1_000;
 
 // `Owner::put` of a task into a deque.
 #[derive(Drop)]
-struct Putting {
-    owner: Owner<Unnamed>,
-    task: Option<Task<Unnamed>>,
+struct Putting<T: Numbered> {
+    owner: Owner<T>,
+    task: Option<T>,
 }
 
-impl Call for Putting {
+impl Call for Putting<Task<Unnamed>> {
     fn make(&mut self, _alloc: Global) -> Ended {
         let Some(task) = self.task.take() else {
             return Ended::Otherwise;
@@ -98,7 +103,7 @@ impl Call for Putting {
     }
 }
 
-impl Putting {
+impl Putting<Task<Unnamed>> {
     // Puts the task that was to be put, and has this one put next.
     fn go_on(&mut self, next: Task<Unnamed>) -> Result<(), Stop> {
         let Some(task) = self.task.replace(next) else {
@@ -112,7 +117,7 @@ impl Putting {
 }
 
 // The first owner of a yard of two.
-fn owner(alloc: Global) -> Result<Owner<Unnamed>, Stop> {
+fn owner(alloc: Global) -> Result<Owner<Task<Unnamed>>, Stop> {
     let Ok((_yard, mut owners, _passes)) = Yard::new(alloc, 2) else {
         return Err(Stop::Short);
     };
@@ -124,7 +129,11 @@ fn owner(alloc: Global) -> Result<Owner<Unnamed>, Stop> {
 
 // The first owner of a yard of two, with the first tasks of a day in its deque, so many, and the task after them. The
 // first instructions of the day wait for no other.
-fn make_putting(alloc: Global, day: &DayInput, before: u32) -> Result<Putting, Stop> {
+fn make_putting(
+    alloc: Global,
+    day: &DayInput,
+    before: u32,
+) -> Result<Putting<Task<Unnamed>>, Stop> {
     let context = context_of(alloc, day)?;
     let mut putting = Putting {
         owner: owner(alloc)?,

@@ -161,6 +161,23 @@ fn a_held_worker_holds_up_no_region_but_its_own(rt: HostRuntime) {
     assert_eq!(rt; gate.meeting.missed.load(Ordering::SeqCst), 0);
 }
 
+// Six instructions, of which one touches the last account of a book with fewer accounts than regions are wanted.
+const LAST: &str = "\
+do,2025-03-31,101,102,transfer,1,71,general,1
+do,2025-03-31,101,102,transfer,1,72,general,1
+do,2025-03-31,101,102,transfer,1,73,general,1
+do,2025-03-31,101,102,transfer,1,74,general,1
+do,2025-03-31,101,102,transfer,1,75,general,1
+do,2025-03-31,101,102,surrender,9,general,1
+";
+
+#[test]
+fn six_bundles_run_at_once_in_a_book_of_five_accounts(rt: HostRuntime) {
+    let gate = Meeting::of(6);
+    let told = shifts(&rt, rt.alloc(), LAST, 8, &gate);
+    assert_eq!(rt; gate.missed.load(Ordering::SeqCst), 0, "{told}");
+}
+
 // 24 transfers to unknown accounts, which touch no account: a region each, three for each of eight workers.
 fn apart(rt: &impl Abort, alloc: Global) -> String {
     let mut rows = String::new(alloc);

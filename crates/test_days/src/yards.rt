@@ -18,13 +18,21 @@ use std::thread::Threads;
 const UNKNOWN: &str = "do,2025-03-31,101,102,transfer,1,77,general,5\n";
 
 // A yard of two workers, the first owner, the first pass and the second.
-type Two = (Yard<Unnamed>, Owner<Unnamed>, Pass<Unnamed>, Pass<Unnamed>);
+type Two = (
+    Yard<Task<Unnamed>>,
+    Owner<Task<Unnamed>>,
+    Pass<Task<Unnamed>>,
+    Pass<Task<Unnamed>>,
+);
 
 // What the second worker steals, the first takes, and the second steals after that.
 type Seen = (Option<u32>, Option<u32>, Option<u32>);
 
 // The last of these passes.
-fn last_pass(yard: &Yard<Unnamed>, passes: &mut Vec<Pass<Unnamed>>) -> Option<Pass<Unnamed>>
+fn last_pass(
+    yard: &Yard<Task<Unnamed>>,
+    passes: &mut Vec<Pass<Task<Unnamed>>>,
+) -> Option<Pass<Task<Unnamed>>>
     requires of { All (IsPassOf yard.now) passes.old.items }
     ensures rest { All (IsPassOf yard.now) passes.new.items }
     ensures last { IfSome result (IsPassOf yard.now) }
@@ -50,7 +58,7 @@ fn two(alloc: Global) -> Result<Two, NoMemory>
 }
 
 // Puts tasks of the places from 1 on, so many.
-fn put(rt: &impl Abort, alloc: Global, owner: &mut Owner<Unnamed>, count: usize) {
+fn put(rt: &impl Abort, alloc: Global, owner: &mut Owner<Task<Unnamed>>, count: usize) {
     let instructions = UNKNOWN.repeat(alloc, count).expect(rt, "memory");
     let DayInput { rules, book, batch } = worked(rt, alloc, instructions.as_str());
     let context = Context::<Unnamed>::of(alloc, &book, &rules, &batch).expect(rt, "memory");
@@ -65,7 +73,7 @@ fn place_of(task: Option<Task<Unnamed>>) -> Option<u32> {
 }
 
 // Steals from the first worker, if the pass is another one's.
-fn steal(yard: &Yard<Unnamed>, pass: &mut Pass<Unnamed>) -> Option<u32>
+fn steal(yard: &Yard<Task<Unnamed>>, pass: &mut Pass<Task<Unnamed>>) -> Option<u32>
     requires of { IsPassOf yard.now pass.old }
     ensures of { IsPassOf yard.now pass.new }
 {
@@ -83,7 +91,10 @@ fn in_one_thread(rt: &impl Abort, alloc: Global) -> Seen {
     (stolen, taken, steal(&yard, &mut pass))
 }
 
-fn steals(yard: &Yard<Unnamed>, mut pass: Pass<Unnamed>) -> (Pass<Unnamed>, Option<u32>)
+fn steals(
+    yard: &Yard<Task<Unnamed>>,
+    mut pass: Pass<Task<Unnamed>>,
+) -> (Pass<Task<Unnamed>>, Option<u32>)
     requires of { IsPassOf yard.now pass }
     ensures of { IsPassOf yard.now result.0 }
 {
@@ -91,7 +102,7 @@ fn steals(yard: &Yard<Unnamed>, mut pass: Pass<Unnamed>) -> (Pass<Unnamed>, Opti
     (pass, stolen)
 }
 
-fn takes(mut owner: Owner<Unnamed>) -> (Owner<Unnamed>, Option<u32>) {
+fn takes(mut owner: Owner<Task<Unnamed>>) -> (Owner<Task<Unnamed>>, Option<u32>) {
     let taken = place_of(owner.take_own());
     (owner, taken)
 }

@@ -1,6 +1,8 @@
 package registry;
 
 import java.nio.charset.StandardCharsets;
+import java.time.LocalDate;
+import java.time.format.DateTimeFormatter;
 import java.util.Objects;
 
 /**
@@ -14,7 +16,13 @@ public final class Registry {
     private static final int PLAN = 2;
     private static final int FIGURES = 3;
     private static final int TOTALS = 4;
-    private static final int STATEMENT = 5;
+    private static final int STATEMENTS = 5;
+    private static final int STATEMENT = 6;
+    private static final int NEXT = 7;
+
+    // How a date is written, and what stands in place of it where none is asked for.
+    private static final DateTimeFormatter FORM = DateTimeFormatter.ofPattern("uuuu-MM-dd");
+    private static final byte[] NO_DATE = new byte[10];
 
     // What words are asked for, as registry_jni.c knows it.
     private static final int VERSION_STRING = 0;
@@ -26,9 +34,10 @@ public final class Registry {
     private static final long DONE = 0;
     private static final long NO_ACCOUNT = 2;
     private static final long FAULT = 3;
+    private static final long NO_NEXT_DATE = 6;
 
     static {
-        System.loadLibrary("registry_jni");
+        Shim.load();
     }
 
     private Registry() {}
@@ -63,6 +72,24 @@ public final class Registry {
         return ask(STATEMENT, day, account);
     }
 
+    /**
+     * The statements of all accounts, by rising number, one behind another, after one settlement. Each ends with its row
+     * {@code end}.
+     */
+    public static String statements(byte[] day) throws Fault {
+        return ask(STATEMENTS, day, 0);
+    }
+
+    /**
+     * The text of the next day up to its instructions: its {@code do} rows, if it has some, and the row {@code end} go
+     * behind it. A date that is not later than the day is an {@link IllegalArgumentException}.
+     */
+    public static String nextDay(byte[] day, LocalDate date) throws Fault {
+        byte[] written = date.format(FORM).getBytes(StandardCharsets.US_ASCII);
+        // (a year of more than four digits is none of a day text)
+        return ask(NEXT, day, 0, written.length == NO_DATE.length ? written : NO_DATE);
+    }
+
     /** The version of the engine, such as {@code 1.1}. */
     public static String version() {
         return words(VERSION_STRING, 0);
@@ -83,10 +110,14 @@ public final class Registry {
     }
 
     private static String ask(int command, byte[] day, int account) throws Fault {
+        return ask(command, day, account, NO_DATE);
+    }
+
+    private static String ask(int command, byte[] day, int account, byte[] date) throws Fault {
         // (the native method reads whatever it is given)
         Objects.requireNonNull(day, "no day text");
         long[] told = new long[3];
-        byte[] text = call(command, day, account, told);
+        byte[] text = call(command, day, account, date, told);
         if (told[0] == DONE) {
             return new String(text, StandardCharsets.US_ASCII);
         }
@@ -96,11 +127,14 @@ public final class Registry {
         if (told[0] == NO_ACCOUNT) {
             throw new IllegalArgumentException("no such account: " + Integer.toUnsignedString(account));
         }
+        if (told[0] == NO_NEXT_DATE) {
+            throw new IllegalArgumentException("the next day is later than the day, and a date of a day text");
+        }
         throw new OutOfMemoryError("the registry library ran out of memory");
     }
 
     private static native String words(int which, int number);
 
     // Fills `told` with status, cause and row, and answers the text if there is one.
-    private static native byte[] call(int command, byte[] day, int account, long[] told);
+    private static native byte[] call(int command, byte[] day, int account, byte[] date, long[] told);
 }

@@ -5,6 +5,7 @@ use std::sync::OnceLock;
 
 /// What is wrong with the first faulty row.
 #[derive(Clone, Copy, Debug, PartialEq, Eq, Hash)]
+#[non_exhaustive]
 pub enum Cause {
     /// The text ends although a row must follow, or a row follows the row `end`.
     End,
@@ -28,7 +29,7 @@ pub enum Cause {
 
 impl Cause {
     /// All causes, in the order of their numbers in the library, which count from 1.
-    pub const ALL: [Cause; 9] = [
+    pub const ALL: &'static [Cause] = &[
         Cause::End,
         Cause::Tag,
         Cause::Fields,
@@ -43,7 +44,7 @@ impl Cause {
     /// The word of the cause, as the program writes it.
     pub fn word(self) -> &'static str {
         static WORDS: OnceLock<Vec<String>> = OnceLock::new();
-        &WORDS.get_or_init(|| (1..=9).map(native::cause_word).collect())[self as usize]
+        &WORDS.get_or_init(|| (1..=Cause::ALL.len() as u32).map(native::cause_word).collect())[self as usize]
     }
 }
 
@@ -54,7 +55,18 @@ impl fmt::Display for Cause {
 }
 
 /// Why there is no text.
+///
+/// ```
+/// use registry::{Cause, Fault};
+///
+/// let fault = registry::settle(&std::fs::read("../wrong-date.csv")?).unwrap_err();
+/// assert_eq!(fault.to_string(), "row 12: date");
+/// let Fault::Row { row, cause } = fault else { panic!("no fault of a row") };
+/// assert_eq!((row, cause), (12, Cause::Date));
+/// # Ok::<(), Box<dyn std::error::Error>>(())
+/// ```
 #[derive(Clone, Copy, Debug, PartialEq, Eq, Hash)]
+#[non_exhaustive]
 pub enum Fault {
     /// The bytes are no day text.
     Row {
@@ -65,6 +77,8 @@ pub enum Fault {
     },
     /// The day has no such account.
     NoAccount,
+    /// The date of a next day is not later than the day, or no date of a day text.
+    NoNextDate,
     /// Memory ran out.
     NoMemory,
 }
@@ -74,6 +88,7 @@ impl fmt::Display for Fault {
         match self {
             Fault::Row { row, cause } => write!(f, "row {row}: {cause}"),
             Fault::NoAccount => f.write_str("no such account"),
+            Fault::NoNextDate => f.write_str("the next day is later than the day, and a date of a day text"),
             Fault::NoMemory => f.write_str("out of memory"),
         }
     }

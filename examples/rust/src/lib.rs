@@ -12,15 +12,29 @@
 #![deny(unsafe_code)]
 #![warn(missing_docs)]
 
+mod account;
 mod fault;
+mod instruction;
 #[allow(unsafe_code)]
 mod native;
 mod report;
+mod values;
 
+pub use account::{Account, Retired};
 pub use fault::{Cause, Fault};
-pub use report::{Log, LogRow, Report};
+pub use instruction::{Act, Instruction, Share};
+pub use report::{Log, LogRow, Outcome, Refusal, Report, Totals};
+pub use values::{AccountKind, Date, Holding, Kind, Right, Status};
 
 /// The report of the day that these bytes describe.
+///
+/// ```
+/// let report = registry::settle(&std::fs::read("../first-transfer.csv")?)?;
+/// for row in report.log() {
+///     println!("record {}: {}", row.record(), row.instruction().act.word());
+/// }
+/// # Ok::<(), Box<dyn std::error::Error>>(())
+/// ```
 ///
 /// # Errors
 /// `Row` if they are no day text. `NoMemory` if memory ran out.
@@ -30,6 +44,13 @@ pub fn settle(day: &[u8]) -> Result<Report, Fault> {
 
 /// The log of the day as a trial: why each instruction is done or refused.
 ///
+/// ```
+/// let log = registry::attempt(&std::fs::read("../morning-batch.csv")?)?;
+/// let why: Vec<String> = log.rows().filter_map(|row| row.refusal()).map(|own| own.sentence()).collect();
+/// assert_eq!(why.len(), 7);
+/// # Ok::<(), Box<dyn std::error::Error>>(())
+/// ```
+///
 /// # Errors
 /// As [`settle`].
 pub fn attempt(day: &[u8]) -> Result<Log, Fault> {
@@ -37,6 +58,12 @@ pub fn attempt(day: &[u8]) -> Result<Log, Fault> {
 }
 
 /// The text of the plan: which instructions must wait for which others.
+///
+/// ```
+/// let plan = registry::plan(&std::fs::read("../morning-batch.csv")?)?;
+/// assert!(plan.ends_with(b"\nend\n"));
+/// # Ok::<(), Box<dyn std::error::Error>>(())
+/// ```
 ///
 /// # Errors
 /// As [`settle`].
@@ -46,13 +73,45 @@ pub fn plan(day: &[u8]) -> Result<Vec<u8>, Fault> {
 
 /// The text of an account's statement over the day.
 ///
+/// ```
+/// use registry::Fault;
+///
+/// let day = std::fs::read("../first-transfer.csv")?;
+/// assert!(registry::statement(&day, 1)?.starts_with(b"opening,1,100,0\n"));
+/// assert_eq!(registry::statement(&day, 7), Err(Fault::NoAccount));
+/// # Ok::<(), Box<dyn std::error::Error>>(())
+/// ```
+///
 /// # Errors
 /// As [`settle`], and `NoAccount` if the day has no such account.
 pub fn statement(day: &[u8], account: u32) -> Result<Vec<u8>, Fault> {
     native::statement(day, account)
 }
 
+/// The texts of the statements of all accounts, by rising number, one behind another, after one settlement. Each ends
+/// with its row `end`.
+///
+/// ```
+/// let day = std::fs::read("../first-transfer.csv")?;
+/// let all = String::from_utf8(registry::statements(&day)?)?;
+/// let first = all.split_inclusive("\nend\n").next().ok_or("no account")?;
+/// assert_eq!(first.as_bytes(), registry::statement(&day, 1)?);
+/// # Ok::<(), Box<dyn std::error::Error>>(())
+/// ```
+///
+/// # Errors
+/// As [`settle`].
+pub fn statements(day: &[u8]) -> Result<Vec<u8>, Fault> {
+    native::statements(day)
+}
+
 /// The text of the determined compliance figures after the day.
+///
+/// ```
+/// let figures = registry::figures(&std::fs::read("../compliance-year.csv")?)?;
+/// assert!(figures.starts_with(b"determined,"));
+/// # Ok::<(), Box<dyn std::error::Error>>(())
+/// ```
 ///
 /// # Errors
 /// As [`settle`].
@@ -62,23 +121,62 @@ pub fn figures(day: &[u8]) -> Result<Vec<u8>, Fault> {
 
 /// The text of the totals after the day.
 ///
+/// ```
+/// let totals = registry::totals(&std::fs::read("../first-transfer.csv")?)?;
+/// assert_eq!(totals, b"totals,general,100,0,0\ntotals,aviation,50,0,0\nend\n");
+/// # Ok::<(), Box<dyn std::error::Error>>(())
+/// ```
+///
 /// # Errors
 /// As [`settle`].
 pub fn totals(day: &[u8]) -> Result<Vec<u8>, Fault> {
     native::totals(day)
 }
 
+/// The text of the next day up to its instructions, from the text of a day: its `do` rows, if it has some, and the row
+/// `end` go behind it.
+///
+/// ```
+/// use registry::Date;
+///
+/// let mut next = registry::next_day(
+///     &std::fs::read("../first-transfer.csv")?,
+///     Date { year: 2025, month: 4, day: 1 },
+/// )?;
+/// next.extend_from_slice(b"end\n");
+/// assert_eq!(registry::settle(&next)?.accounts().next().map(|own| own.general), Some(60));
+/// # Ok::<(), Box<dyn std::error::Error>>(())
+/// ```
+///
+/// # Errors
+/// As [`settle`], and `NoNextDate` if the date is not later than the day, or no date of a day text.
+pub fn next_day(day: &[u8], date: Date) -> Result<Vec<u8>, Fault> {
+    native::next_day(day, &date.to_string())
+}
+
 /// The version of the engine, such as `1.1`.
+///
+/// ```
+/// assert!(registry::version().starts_with("1."));
+/// ```
 pub fn version() -> String {
     native::version()
 }
 
 /// The name of the check with this code, 1 to 28, as a log has it. Another code has the empty text.
+///
+/// ```
+/// assert_eq!(registry::refusal_word(18), "NotEnough");
+/// ```
 pub fn refusal_word(code: u32) -> String {
     native::refusal_word(code)
 }
 
 /// Why the check with this code refuses an instruction, in a sentence. A code that is no check's has the empty text.
+///
+/// ```
+/// assert_eq!(registry::refusal_sentence(14), "An amount is 0.");
+/// ```
 pub fn refusal_sentence(code: u32) -> String {
     native::refusal_sentence(code)
 }

@@ -15,6 +15,7 @@ struct Answer {
 const DONE: u32 = 0;
 const NO_ACCOUNT: u32 = 2;
 const FAULT: u32 = 3;
+const NO_DATE: u32 = 6;
 
 extern "C" {
     fn registry_settle(day: *const u8, day_length: usize, room: *mut u8, room_length: usize) -> Answer;
@@ -22,10 +23,14 @@ extern "C" {
     fn registry_plan(day: *const u8, day_length: usize, room: *mut u8, room_length: usize) -> Answer;
     fn registry_figures(day: *const u8, day_length: usize, room: *mut u8, room_length: usize) -> Answer;
     fn registry_totals(day: *const u8, day_length: usize, room: *mut u8, room_length: usize) -> Answer;
-    fn registry_statement(
+    fn registry_statement(day: *const u8, day_length: usize, account: u32, room: *mut u8, room_length: usize)
+        -> Answer;
+    fn registry_statements(day: *const u8, day_length: usize, room: *mut u8, room_length: usize) -> Answer;
+    fn registry_next(
         day: *const u8,
         day_length: usize,
-        account: u32,
+        date: *const u8,
+        date_length: usize,
         room: *mut u8,
         room_length: usize,
     ) -> Answer;
@@ -51,16 +56,14 @@ fn ask(guess: usize, mut call: impl FnMut(&mut [u8]) -> Answer) -> Result<Vec<u8
             DONE => length = answer.length,
             NO_ACCOUNT => return Err(Fault::NoAccount),
             FAULT => return Err(fault_of(&answer)),
+            NO_DATE => return Err(Fault::NoNextDate),
             _ => return Err(Fault::NoMemory),
         }
     }
 }
 
 fn fault_of(answer: &Answer) -> Fault {
-    Fault::Row {
-        row: answer.row,
-        cause: Cause::ALL[answer.cause as usize - 1],
-    }
+    Fault::Row { row: answer.row, cause: Cause::ALL[answer.cause as usize - 1] }
 }
 
 fn command(call: Call, day: &[u8]) -> Result<Vec<u8>, Fault> {
@@ -90,10 +93,21 @@ pub(crate) fn totals(day: &[u8]) -> Result<Vec<u8>, Fault> {
     command(registry_totals, day)
 }
 
+pub(crate) fn statements(day: &[u8]) -> Result<Vec<u8>, Fault> {
+    command(registry_statements, day)
+}
+
 pub(crate) fn statement(day: &[u8], account: u32) -> Result<Vec<u8>, Fault> {
     ask(day.len() + 4096, |room| {
         // SAFETY: as in `command`.
         unsafe { registry_statement(day.as_ptr(), day.len(), account, room.as_mut_ptr(), room.len()) }
+    })
+}
+
+pub(crate) fn next_day(day: &[u8], date: &str) -> Result<Vec<u8>, Fault> {
+    ask(day.len() + 4096, |room| {
+        // SAFETY: as in `command`.
+        unsafe { registry_next(day.as_ptr(), day.len(), date.as_ptr(), date.len(), room.as_mut_ptr(), room.len()) }
     })
 }
 

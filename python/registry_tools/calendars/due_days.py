@@ -54,11 +54,6 @@ class Refused:
     logged: LogRow
     path: str | Path
 
-    @property
-    def row(self) -> str:
-        """The `do` row of the instruction."""
-        return f"do,{','.join(self.logged.instruction.fields)}"
-
 
 class Waits:
     """What the days so far refused as NotDue, and no later day has taken up."""
@@ -68,15 +63,15 @@ class Waits:
 
     def look_at(self, day: DayText, found: Findings) -> None:
         """Takes off what a day takes up, and tells what is due on it and is not there: once."""
-        there = Counter(f"do,{','.join(i.fields)}" for i in day.instructions)
+        there = Counter(i.row for i in day.instructions)
         left, head = [], day.day()
         for own in self.waiting:
-            if there[own.row]:
-                there[own.row] -= 1
-            elif is_due(head, own.logged.instruction):
-                due = due_on(head, own.logged.instruction)
-                before = f"{own.path}:{own.logged.line}"
-                expected = f"{shown(own.row)}, which {before} refused as {NOT_DUE}, and which is due on {due}"
+            asked, before = own.logged.instruction, f"{own.path}:{own.logged.line}"
+            if there[asked.row]:
+                there[asked.row] -= 1
+            elif is_due(head, asked):
+                due = due_on(head, asked)
+                expected = f"{shown(asked.row)}, which {before} refused as {NOT_DUE}, and which is due on {due}"
                 found.add(FileFault(day.path, day.source.line(day.first_do), "do", "no such row", expected))
             else:
                 left.append(own)

@@ -11,7 +11,7 @@ MOST_BYTES = 75
 def calendar_of(name: str, entries: Iterable[tuple[datetime.date, str]]) -> str:
     """The text of a calendar with these entries, each of a whole day."""
     made = datetime.datetime.now(datetime.timezone.utc).strftime("%Y%m%dT%H%M%SZ")
-    lines = ["BEGIN:VCALENDAR", "VERSION:2.0", "PRODID:-//registry//day due//EN", f"X-WR-CALNAME:{escaped(name)}"]
+    lines = ["BEGIN:VCALENDAR", "VERSION:2.0", "PRODID:-//registry//day due//EN", f"X-WR-CALNAME:{as_value(name)}"]
     for date, text in entries:
         lines += entry_lines(date, text, made)
     return "".join(line + LINE_END for line in folded([*lines, "END:VCALENDAR"]))
@@ -23,11 +23,11 @@ def entry_lines(date: datetime.date, text: str, made: str) -> list[str]:
     following = date + datetime.timedelta(1)
     return [
         "BEGIN:VEVENT", f"UID:{name}@registry", f"DTSTAMP:{made}", f"DTSTART;VALUE=DATE:{date:%Y%m%d}",
-        f"DTEND;VALUE=DATE:{following:%Y%m%d}", f"SUMMARY:{escaped(text)}", "TRANSP:TRANSPARENT", "END:VEVENT",
+        f"DTEND;VALUE=DATE:{following:%Y%m%d}", f"SUMMARY:{as_value(text)}", "TRANSP:TRANSPARENT", "END:VEVENT",
     ]  # fmt: skip
 
 
-def escaped(text: str) -> str:
+def as_value(text: str) -> str:
     """A text as the value of a property."""
     for letter in ("\\", ";", ","):
         text = text.replace(letter, f"\\{letter}")

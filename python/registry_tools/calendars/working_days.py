@@ -112,7 +112,7 @@ def left_out(working_days: Sequence[datetime.date]) -> list[datetime.date]:
     return [day for day in every if day.weekday() in MONDAY_TO_FRIDAY and day not in there]
 
 
-def in_words(days: Sequence[datetime.date]) -> str:
+def days_in_words(days: Sequence[datetime.date]) -> str:
     """Days as a message tells them."""
     more = [f"{len(days) - MOST_TOLD} more"] if len(days) > MOST_TOLD else []
     return ", ".join([*(f"{day:%A} {day}" for day in days[:MOST_TOLD]), *more])
@@ -141,7 +141,7 @@ def next_calendar(day: DayText, path: str | None, notes: Notes) -> list[datetime
     every = sorted([*old, *added])
     missing = [own for own in left_out(every) if not old or own > old[-1]]
     if missing:
-        notes.add(f"{LEFT_OUT}: {in_words(missing)}")
+        notes.add(f"{LEFT_OUT}: {days_in_words(missing)}")
     return every
 
 

@@ -1,5 +1,4 @@
 """The desk as a Flask application: its addresses, and what its pages have in common."""
-import datetime
 import functools
 import secrets
 from pathlib import Path
@@ -7,7 +6,6 @@ from typing import Any, Callable
 
 import flask
 from werkzeug.exceptions import HTTPException
-from werkzeug.routing import BaseConverter, ValidationError
 from werkzeug.wrappers import Response
 
 from registry_tools.desk import gate, pages, posts, questions, tables, words
@@ -15,6 +13,7 @@ from registry_tools.desk.served import Served
 from registry_tools.errors import FileFault, WordsFault
 from registry_tools.pages import html
 from registry_tools.pages.rulebook import FORMATS, RULES
+from registry_tools.pages.settled import long_date
 from registry_tools.second import faults
 from registry_tools.texts.checks import advice_for, checks
 from registry_tools.texts.in_words import grouped
@@ -30,19 +29,20 @@ SECTIONS = {
 OF_CHANGES = {"/hand-in", "/change", "/close"}
 GET: dict[str, Callable[..., Any]] = {
     "/": pages.today, "/hand-in": pages.hand_in, "/next": pages.next_day, "/change": pages.change,
-    "/close": pages.close, "/days": pages.days, "/days/<date:date>": pages.day, "/name": pages.name,
-    "/accounts": questions.accounts, "/accounts/<n:number>": questions.account, "/compliance": questions.compliance,
-    "/month": questions.month_page, "/find": questions.find, "/find.csv": questions.find_csv,
-    "/find.xlsx": questions.find_xlsx,
+    "/close": pages.close, "/days": pages.days, "/days/<string(length=10):word>": pages.day, "/name": pages.name,
+    "/accounts": questions.accounts, "/accounts/<int:number>": questions.account, "/compliance": questions.compliance,
+    "/month": questions.month_page, "/find": questions.find, "/find.<any(csv, xlsx):kind>": questions.find_file,
+    "/table.<any(csv, xlsx):kind>": questions.table_file,
     "/journal": questions.journal, "/audit": questions.audit, "/send": questions.send,
     "/jobs/<number>": questions.job, "/jobs/<number>/packages.zip": questions.packages,
 }  # fmt: skip
 POST: dict[str, Callable[..., Any]] = {
-    "/name": posts.name, "/hand-in/look": posts.look, "/hand-in/take": posts.take,
-    "/next/take-back": posts.take_back, "/next/seen": posts.keep_look, "/change/look": posts.look_at_change,
-    "/change/make": posts.make_change, "/close/settle": posts.settle, "/days/undo": posts.undo,
-    "/approve": posts.approve,
-    "/days/release": posts.release, "/put-right": posts.put_right, "/audit/begin": posts.audit,
+    "/name": posts.name, "/hand-in/look": posts.look, "/hand-in/take": posts.take, "/next/take-back": posts.take_back,
+    # (a look is kept, so that the next one tells what is new; and any command puts right what another one left)
+    "/next/seen": functools.partial(posts.begin, command="try"),
+    "/put-right": functools.partial(posts.begin, command="status"),
+    "/change/look": posts.look_at_change, "/change/make": posts.make_change, "/close/settle": posts.settle,
+    "/days/undo": posts.undo, "/days/release": posts.release, "/approve": posts.approve, "/audit/begin": posts.audit,
     "/send/begin": posts.send,
 }  # fmt: skip
 # What somebody may begin who changes nothing.
@@ -56,46 +56,24 @@ class Request(flask.Request):
     max_form_memory_size = MOST_FORM
 
 
-class Number(BaseConverter):
-    """A number in an address."""
-
-    regex = "[1-9][0-9]{0,8}"
-
-
-class Date(BaseConverter):
-    """A date in an address."""
-
-    regex = "[0-9]{4}-[0-9]{2}-[0-9]{2}"
-
-    def to_python(self, value: str) -> datetime.date:
-        try:
-            return datetime.date.fromisoformat(value)
-        except ValueError:
-            raise ValidationError from None
-
-
-class Application(flask.Flask):
-    """The desk, with its kind of request."""
-
-    request_class = Request
-
-
 def make(served: Served) -> flask.Flask:
     """The application of a desk."""
-    app = Application("desk", root_path=str(Path(__file__).parent), static_folder=None)
+    app = flask.Flask("desk", root_path=str(Path(__file__).parent), static_folder=None)
+    app.request_class = Request
     # (cookies know no ports: another desk has another one)
     app.config.update(
         OFFICE=str(served.path), SECRET_KEY=secrets.token_bytes(32), MAX_CONTENT_LENGTH=MOST_BYTES,
         MAX_FORM_MEMORY_SIZE=MOST_FORM, SESSION_COOKIE_NAME=f"desk-{served.host.rpartition(':')[2]}",
         SESSION_COOKIE_HTTPONLY=True, SESSION_COOKIE_SAMESITE="Strict",
     )  # fmt: skip
-    app.url_map.converters.update(n=Number, date=Date)
-    gate.build(app, served)
+    # (the gate stands before all pages, also those that are not there)
+    app.before_request(functools.partial(gate.let_in, served))
     app.before_request(functools.partial(look_at_state, served))
+    app.after_request(gate.with_headers)
     for fault in (FileFault, WordsFault, OSError, HTTPException):
         app.register_error_handler(fault, functools.partial(failed, served))
     for rule, view in GET.items():
-        app.add_url_rule(rule, f"GET {rule}", functools.partial(shown, served, view), methods=["GET"])
+        app.add_url_rule(rule, f"GET {rule}", functools.partial(shown_now, served, view), methods=["GET"])
     for rule, view in POST.items():
         app.add_url_rule(rule, f"POST {rule}", functools.partial(changed, served, view), methods=["POST"])
     app.add_url_rule("/style.css", "style", style, methods=["GET"])
@@ -111,7 +89,7 @@ def look_at_state(served: Served) -> None:
     flask.g.state = served.reading.state()
 
 
-def shown(served: Served, view: Callable[..., Any], **more: Any) -> Any:
+def shown_now(served: Served, view: Callable[..., Any], **more: Any) -> Any:
     """What a view shows of the folder as it is at one moment."""
     return served.reading.whole(functools.partial(view, served, **more))
 
@@ -141,10 +119,11 @@ def dress(app: flask.Flask, served: Served) -> None:
         token=lambda: flask.session["token"], number=lambda: secrets.token_hex(8), state=lambda: flask.g.state,
         who=lambda: gate.known_name(served), says_name=not served.who and not served.header,
         has_leftovers=served.reading.has_leftovers,
-        table=tables.table, address=tables.address, meaning=lambda name: checks()[name].meaning, advice=advice_for,
-        acts=sorted(faults.ACT_WORDS), lag_words=words.LAGS,
+        table=tables.sorted_table, address=tables.address, acts=faults.ACT_WORDS, lag_words=words.LAGS,
+        meaning=lambda name: checks()[name].meaning, advice=advice_for,
     )  # fmt: skip
-    app.jinja_env.filters.update(grouped=grouped, local=words.local, label=words.label, date=words.date_in_words)
+    app.jinja_env.filters.update(grouped=grouped, local=words.local, label=words.label, date=long_date)
+    app.jinja_env.filters["called"] = lambda word: words.CALLED.get(word, word)
     app.jinja_env.trim_blocks = app.jinja_env.lstrip_blocks = True
 
 

@@ -60,13 +60,13 @@ def serve(path: Path, port: int, who: str | None, header: str | None, is_look: b
     """Answers requests until somebody ends it."""
     import waitress
 
-    from registry_tools.desk import app, private
-    from registry_tools.desk.served import Served
+    from registry_tools.desk import app
+    from registry_tools.desk.served import Served, private_folder
 
     # (a server lives for days, and a command would leave its circles to its end)
     gc.enable()
     progress.is_shown = False
-    with private.folder() as own:
+    with private_folder() as own:
         served = Served(path, f"{ADDRESS}:{port}", own, who, header, is_look)
         flask = app.make(served)
         try:

@@ -22,6 +22,8 @@ CHOICES = {"kind": rules.KINDS, "status": faults.STATUSES}
 # How many working days before the next day, and behind it, are offered as the day of a proposal.
 BEFORE, BEHIND = 15, 5
 KEEP, DROP = "keep", "leave out"
+# The fields that add something to the rules, with the words that do so.
+ADDED = {"new_admin": "--admin=+", "working": "--working=", "not_working": "--not-working="}
 OTHER_ROWS = ("emissions", "figure")
 PAIRS = [*itertools.product(faults.ACCOUNT_KINDS, rules.KINDS)]
 
@@ -81,14 +83,15 @@ def rows_of_typed(table: str) -> bytes:
 # A change by hand: what the form shows, and the words that it says.
 
 
-def account_fields(block: Block) -> dict[str, Any]:
-    """What the form of an account shows: what it is now."""
+def account_fields(block: Block, periods: int) -> dict[str, Any]:
+    """What the form of an account shows: what it is now, with a correction for each of so many periods."""
     row = block.rows[0].split(",")
     lists = [own.split(",") for own in block.list_rows]
+    corrections = {own[1]: own[2] for own in lists if own[0] == "correction"}
     return {
-        "kind": row[2], "holder": row[3], "outside": row[5], "waiver": row[6],
-        "corrections": {"1": row[7], **{own[1]: own[2] for own in lists if own[0] == "correction"}},
-        "users": [(own[1], own[2]) for own in lists if own[0] == "user"],
+        "kind": row[2], "own": {"holder": row[3], "outside": row[5], "waiver": row[6]},
+        "corrections": {"1": row[7], **{str(own): corrections.get(str(own), "0") for own in range(2, periods + 1)}},
+        "users": {own[1]: own[2] for own in lists if own[0] == "user"},
         "years": [(own[0], own[1], own[2]) for own in lists if own[0] in OTHER_ROWS],
     }  # fmt: skip
 
@@ -112,7 +115,8 @@ def words_of_change(said: Said, own: Reading) -> list[str]:
     if of == "rules":
         return [*rule_words(said, rule_fields(day))]
     if of == "new":
-        return [*new_words(said)]
+        fields = (said.get(name, "") for name in ("number_of_account", "kind", "holder"))
+        return [f"--open-account={','.join(fields)}", *new_user(said)]
     raise WordsFault("nothing to change was chosen")
 
 
@@ -121,27 +125,22 @@ def account_words(said: Said, day: DayText) -> Iterator[str]:
     number = said.get("account", "")
     if not number.isascii() or not number.isdigit() or int(number[:10]) not in day.book:
         raise WordsFault("there is no such account in the next day's text")
-    now = account_fields(day.book[int(number)])
+    now = account_fields(day.book[int(number)], len(day.head.periods))
     yield number
-    for name in ("holder", "outside", "waiver"):
-        if name in said and said[name] != now[name]:
-            yield f"--{name}={said[name]}"
-    for user, right in now["users"]:
-        asked = said.get(f"user-{user}", KEEP)
-        if asked == DROP:
-            yield f"--user=-{user}"
-        elif asked not in (KEEP, right):
-            yield f"--user=+{user}:{asked}"
+    yield from (f"--{name}={asked}" for name, asked in changed(said, now["own"]))
+    for user, asked in changed(said, now["users"], "user-"):
+        yield f"--user=-{user}" if asked == DROP else f"--user=+{user}:{asked}"
     yield from new_user(said)
-    for period, value in now["corrections"].items():
-        asked = said.get(f"correction-{period}", value)
-        if asked != value:
-            yield f"--correction={period}:{asked}"
-    if said.get("period"):
-        yield f"--correction={said['period']}:{said.get('factor', '')}"
-    for tag, year, _ in now["years"]:
-        if said.get(f"{tag}-{year}") == DROP:
-            yield f"--leave-out={tag}:{year}"
+    yield from (f"--correction={period}:{asked}" for period, asked in changed(said, now["corrections"], "correction-"))
+    yield from (f"--leave-out={tag}:{year}" for tag, year, _ in now["years"] if said.get(f"{tag}-{year}") == DROP)
+
+
+def changed(said: Said, now: Mapping[str, Any], start: str = "") -> Iterator[tuple[str, str]]:
+    """What a form says of these fields, whose names in it begin so: of those that it says something else of."""
+    for name, value in now.items():
+        asked = said.get(f"{start}{name}", KEEP)
+        if asked not in (KEEP, str(value)):
+            yield name, asked
 
 
 def new_user(said: Said) -> Iterator[str]:
@@ -150,31 +149,14 @@ def new_user(said: Said) -> Iterator[str]:
         yield f"--user=+{said['new_user']}:{said.get('new_right', '')}"
 
 
-def new_words(said: Said) -> Iterator[str]:
-    """A new account, with its first representative if one is named."""
-    yield f"--open-account={said.get('number_of_account', '')},{said.get('kind', '')},{said.get('holder', '')}"
-    yield from new_user(said)
-
-
 def rule_words(said: Said, now: dict[str, Any]) -> Iterator[str]:
     """The words of `./day change` that a form of the rules asks for; `now` is what they are."""
-    for admin in now["admins"]:
-        if said.get(f"admin-{admin}") == DROP:
-            yield f"--admin=-{admin}"
-    if said.get("new_admin"):
-        yield f"--admin=+{said['new_admin']}"
+    yield from (f"--admin=-{admin}" for admin in now["admins"] if said.get(f"admin-{admin}") == DROP)
     if said.get("first") or said.get("last"):
         yield f"--period={said.get('first', '')}-{said.get('last', '')}"
-    if said.get("current", str(now["current"])) != str(now["current"]):
-        yield f"--current={said['current']}"
-    for name, days in now["lags"].items():
-        if said.get(f"lag-{name}", str(days)) != str(days):
-            yield f"--lag={name}:{said[f'lag-{name}']}"
-    if said.get("has_pairs"):
-        for pair, is_there in now["pairs"]:
-            if bool(said.get("pair-" + "-".join(pair))) != is_there:
-                yield f"--surrender={'-' if is_there else '+'}{':'.join(pair)}"
-    yield from (f"--{word}={said[name]}" for name, word in DAYS if said.get(name))
-
-
-DAYS = (("working", "working"), ("not_working", "not-working"))
+    yield from (f"--current={asked}" for _, asked in changed(said, {"current": now["current"]}))
+    yield from (f"--lag={name}:{asked}" for name, asked in changed(said, now["lags"], "lag-"))
+    for pair, is_there in now["pairs"] if said.get("has_pairs") else []:
+        if bool(said.get("pair-" + "-".join(pair))) != is_there:
+            yield f"--surrender={'-' if is_there else '+'}{':'.join(pair)}"
+    yield from (f"{word}{said[name]}" for name, word in ADDED.items() if said.get(name))

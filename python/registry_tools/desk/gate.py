@@ -33,12 +33,6 @@ NO_NAME = "The proxy before this desk has to say who you are, and it does not."
 LONGEST_NAME = 80
 
 
-def build(app: flask.Flask, served: Served) -> None:
-    """Puts the gate before all pages, also those that are not there."""
-    app.before_request(lambda: let_in(served))
-    app.after_request(with_headers)
-
-
 def let_in(served: Served) -> Any:
     """Answers nothing to who may go on, or why not."""
     request = flask.request
@@ -83,7 +77,9 @@ def said(code: int, text: str, is_again: bool = False) -> Response:
     path = flask.request.full_path.rstrip("?") if is_again and flask.request.method == "GET" else ""
     # (two slashes would lead to another host)
     path = "/" + path.lstrip("/\\") if path else ""
-    page = flask.render_template("said.html", title="No", text=text, path=path, is_in="token" in flask.session)
+    page = flask.render_template(
+        "base.html", page="said.html", title="No", text=text, path=path, is_in="token" in flask.session
+    )
     return flask.make_response(words.seen(page, flask.current_app.config["OFFICE"]), code)
 
 

@@ -15,7 +15,6 @@ from pathlib import Path
 from typing import Callable, Protocol
 
 from registry_tools.errors import WordsFault
-from registry_tools.options import word_of
 from registry_tools.progress import ASKED
 from registry_tools.streams import names
 
@@ -178,7 +177,3 @@ class Jobs:
         if name not in self.uploads:
             raise WordsFault("the files are not here any more: choose them again")
         return [self.private / name / own for own in self.uploads[name]]
-
-    def words_of_upload(self, name: str) -> list[str]:
-        """The files of an upload as words of a command, in their order."""
-        return [word_of(path.name) for path in self.upload(name)]

@@ -2,6 +2,7 @@
 tried by the functions behind the commands."""
 import contextlib
 import datetime
+import re
 import shutil
 import tempfile
 from dataclasses import dataclass, field
@@ -9,13 +10,18 @@ from pathlib import Path
 from typing import Iterator, NoReturn
 
 from registry_tools.desk.reading import Reading
+from registry_tools.desk.words import label
 from registry_tools.errors import FileFault, WordsFault
-from registry_tools.office import composing, hand_in, handed, trial
+from registry_tools.office import composing, hand_in, handed, handed_journal, trial
 from registry_tools.office.changes import change
 from registry_tools.office.folder import Office
 from registry_tools.office.incoming import Forms
 from registry_tools.options import Words
-from registry_tools.sheets.importing import OTHER_FORM
+
+
+# What an instruction that was typed is called, and a cell of it in a message.
+TYPED = "typed at the desk.csv"
+CELL_TYPED = re.compile(re.escape(TYPED) + ", cell [A-Z]+2: ([a-z]+[2-8]?)")
 
 
 class TellingWords(Words):
@@ -48,7 +54,7 @@ def copy_of_next(own: Reading) -> Iterator[tuple[Office, handed.HandedIn]]:
     office = own.office()
     with tempfile.TemporaryDirectory(dir=own.private) as place:
         shutil.copytree(office.next_folder, place, dirs_exist_ok=True)
-        there = handed.read(Path(place))
+        there = handed_journal.read(Path(place))
         try:
             yield office, there
         except FileFault as fault:
@@ -57,7 +63,7 @@ def copy_of_next(own: Reading) -> Iterator[tuple[Office, handed.HandedIn]]:
             raise
 
 
-def look_at_files(own: Reading, paths: list[Path], again: list[tuple[int, int]], dates: str = "") -> Look:
+def look_at_incoming(own: Reading, paths: list[Path], again: list[tuple[int, int]], dates: str = "") -> Look:
     """What would come of files, if they were handed in; with the rows, by file and line, that are meant once more, and
     with how tables write dates."""
     words, forms = [f"{paths[place]}:{line}" for place, line in again], Forms(dates=dates or None)
@@ -76,7 +82,7 @@ def look_at_files(own: Reading, paths: list[Path], again: list[tuple[int, int]],
         return Look([text.replace(f"{paths[0].parent}/", "")], (place, fault.at))
     except (FileFault, WordsFault) as fault:
         said = str(fault).replace(f"{paths[0].parent}/", "")
-        return Look(said.replace(OTHER_FORM, "another form is chosen with the file").split("\n"))
+        return Look(CELL_TYPED.sub(lambda found: label(found[1]), said).split("\n"))
 
 
 def look_at_change(own: Reading, asked: list[str]) -> change.Difference:

@@ -1,36 +1,37 @@
 """The pages of the day's work: today, what is handed in, the next day, a change by hand, closing, and the days."""
-import datetime
 from typing import Any, Callable, Iterator, Sequence
 
 import flask
 from werkzeug.exceptions import NotFound
 
-from registry_tools.calendars import working_days
+from registry_tools.calendars.dates import date_of
 from registry_tools.calendars.due_days import NOT_DUE
 from registry_tools import installed
 from registry_tools.desk import forms, gate, tables
 from registry_tools.desk.reading import Reading
 from registry_tools.desk.served import Served
-from registry_tools.desk.shown import asked, number_of, outcome, show, whys
+from registry_tools.desk.shown import asked, number_asked, outcome, show_page, whys
 from registry_tools.desk.words import item_in_words, local
 from registry_tools.engine import find_library
 from registry_tools.errors import FileFault, WordsFault
 from registry_tools.notes import LOOK
-from registry_tools.office import approvals, close as closing, composing, handed, release
+from registry_tools.office import approvals, awaited, close as closing, handed, release
 from registry_tools.office.trial import Looked
+from registry_tools.office.waits import waits_of
 from registry_tools.pages import html, summary
 from registry_tools.pages.html import Markup, link, tag
 from registry_tools.pages.plan import plan_parts
-from registry_tools.pages.settled import Settled, by_hand_parts, in_words, long_date, outcome_in_words
+from registry_tools.pages.settled import Settled, by_hand_parts, long_date, outcome_in_words, record_in_words
 from registry_tools.questions import due
 from registry_tools.second import faults, rules
 from registry_tools.sheets import columns as sheets
+from registry_tools.sheets import form
 from registry_tools.tables import RIGHTS
 from registry_tools.texts.in_words import grouped, instruction_in_words
-from registry_tools.texts.report import LogRow
 
 NAMES_OF_SUMS = ("held", "surrendered", "deleted")
-# How the last day of a year may be written in a spreadsheet.
+# What there are empty tables of; and how the last day of a year may be written in a spreadsheet.
+EMPTY = [own for own in form.WHAT if own != form.LABELS]
 DATES = ("31.12.2026", "31/12/2026", "12/31/2026")
 # Of more accounts none is offered in a list; and so many dates are told that come next.
 MOST_OFFERED, MOST_COMING = 1_000, 5
@@ -41,20 +42,19 @@ def today(served: Served) -> Any:
     own = served.reading
     office = own.office()
     handed_in, last = office.handed_in(), office.last()
-    passed = due.missed_days(office)
     items = [
         (item.place, item_in_words(item), item.part.name, item.part.who, local(item.part.at))
         for item in handed_in.items(*handed.KINDS)
     ]
     waits = [
         (str(w.due or "no due day in the calendar"), w.record, instruction_in_words(w.instruction))
-        for w in composing.waits_of(office)
+        for w in waits_of(office)
     ]
-    return show(
+    return show_page(
         "today", "Today", last=last, is_released=office.journal.is_released(), items=items, waits=waits,
-        missed=working_days.in_words(passed), taken=handed_in.taken, holder=own.holder(), dates=own.dates(),
+        missed=due.missed_days(office), taken=handed_in.taken, holder=own.holder(), dates=own.dates(),
         coming=due.next_dates(office, MOST_COMING), faults=[*office.changed_files(last)] if last else [],
-        new=new_of(own) if items or waits else [], seconds=[*approvals.all_waiting(office, handed_in)],
+        new=new_of(own) if items or waits else [], seconds=[*awaited.all_waiting(office, handed_in)],
         forged=approvals.all_approvals(office).faults,
     )  # fmt: skip
 
@@ -72,8 +72,8 @@ def hand_in(served: Served) -> Any:
     """The page with the forms for instructions and files."""
     act = asked("act")
     columns = sheets.columns_of_act(act) if act in faults.ACT_WORDS else []
-    return show(
-        "hand_in", "Hand in", act=act if columns else "", columns=columns, said=flask.request.args,
+    return show_page(
+        "hand_in", "Hand in", act=act if columns else "", columns=columns, said=flask.request.args, empty=EMPTY,
         known=forms.accounts_offered(served.reading, MOST_OFFERED) if columns else [], dates=DATES,
         proposed=forms.dates_of_proposal(served.reading) if columns else [], choices=forms.CHOICES,
     )  # fmt: skip
@@ -94,7 +94,7 @@ def next_day(served: Served) -> Any:
     ]
     counts = {name: sum(map(is_so, looked)) for name, is_so in kinds.items()}
     rows = [(tried.place or 0, tried.words, tried.said(), tried) for tried in shown]
-    return show(
+    return show_page(
         "next", "The next day", date=own.date, rows=rows, shown_row=row_of_looked(served), only=only, counts=counts,
         all=len(looked), whys=whys(shown), notes=[*own.notes, *otherwise], others=others, shown_other=with_box(served),
     )  # fmt: skip
@@ -125,17 +125,18 @@ def box(served: Served, place: int) -> object:
 
 def change(served: Served) -> Any:
     """The form of an account, of the rules, or of a new account."""
-    number, own = number_of("account"), served.reading
+    number, own = number_asked("account"), served.reading
     of = asked("of")
     if own.event() is None:
         raise WordsFault("no day is settled yet: another first text stands in place of a change")
     day = own.text_of_next()
     if number is not None and number not in day.book:
         raise WordsFault(f"there is no account {number} in the next day's text")
-    block = day.book[number] if number is not None else None
-    more = forms.account_fields(block) if block else forms.rule_fields(day) if of == "rules" else {}
-    return show(
-        "change", "Change", account=number, of=of if block is None else "account", date=day.head.date, **more,
+    more: dict[str, Any] = forms.rule_fields(day) if of == "rules" else {}
+    if number is not None:
+        of, more = "account", forms.account_fields(day.book[number], len(day.head.periods))
+    return show_page(
+        "change", "Change", account=number, of=of, date=day.head.date, **more,
         known=forms.accounts_offered(own, MOST_OFFERED), kinds=faults.ACCOUNT_KINDS, rights=RIGHTS,
     )  # fmt: skip
 
@@ -150,20 +151,16 @@ def close(served: Served) -> Any:
         notes = [*outcome_of.notes, *left]
     except (WordsFault, FileFault) as fault:
         why, notes = str(fault), []
-    return show(
-        "close", "Close", date=date, dates=dates, why=why, own=outcome_of, alerts=alerts(notes), notes=notes,
+    return show_page(
+        "close", "Close", date=date, dates=dates, why=why, own=outcome_of, notes=notes,
+        alerts=[note for note in notes if note.startswith(LOOK)],
         totals=[*totals_of(outcome_of)] if outcome_of else [], settler=settler(own),
         asks_second=not own.office().settings.program and not installed.program() and find_library() is None,
     )  # fmt: skip
 
 
-def alerts(notes: list[str]) -> list[str]:
-    """Of these lines, those that somebody has to look at."""
-    return [note for note in notes if note.startswith(LOOK)]
-
-
 def settler(own: Reading) -> str:
-    """What settles the day, in words."""
+    """What settles the day, in words; nothing, if only the second answer does."""
     program = own.office().settings.program or installed.program()
     if program:
         return f"the program {program}"
@@ -171,7 +168,7 @@ def settler(own: Reading) -> str:
         return "the library"
     if installed.is_checkout():
         return "./run, which builds the program first if it is not there"
-    return "nothing yet: office.ini has to name a program, or the second answer settles"
+    return ""
 
 
 def totals_of(own: closing.Outcome) -> Iterator[tuple[str, str, str, str, str]]:
@@ -189,31 +186,27 @@ def days(served: Served) -> Any:
     events = [*reversed(office.journal.filed())]
     rows = [(str(own.date), own.who, local(own.at), own.next - own.first) for own in events]
     last = office.last()
-    return show(
+    return show_page(
         "days", "Days", rows=rows, last=last, is_released=office.journal.is_released(),
         doubt=release.doubt_of(last) if last else "",
         shown_row=lambda row: (link(f"/days/{row[0]}", row[0]), *row[1:]),
     )  # fmt: skip
 
 
-def day(served: Served, date: datetime.date) -> Any:
+def day(served: Served, word: str) -> Any:
     """The page of a day: what the pages of ./day page say, with its log as one table."""
+    date = date_of("the day", word)
     settled = served.reading.settled(date)
     if settled is None:
         raise NotFound
     only = asked("only")
     log = [own for own in settled.log if only not in ("done", "refused") or own.is_done == (only == "done")]
-    rows = [(own.record, in_words(own), named_in(own), outcome_in_words(own), own) for own in log]
-    return show(
-        "day", long_date(date), date=date, parts=parts_of(settled, served.reading), rows=rows, only=only,
+    rows = [(own.record, record_in_words(own), rules.named(own.instruction), outcome_in_words(own), own) for own in log]
+    return show_page(
+        "day", long_date(date), date=date, above=parts_of(settled, served.reading), rows=rows, only=only,
         shown_row=lambda row: (row[0], row[1], settled.accounts_of(row[4]), row[3]),
         plan=plan_parts(settled) if settled.log else [],
     )  # fmt: skip
-
-
-def named_in(own: LogRow) -> str:
-    """The accounts of an instruction, by which its row is sorted."""
-    return ", ".join(map(str, rules.named(own.instruction)))
 
 
 def parts_of(settled: Settled, own: Reading) -> list[Markup]:
@@ -228,9 +221,10 @@ def parts_of(settled: Settled, own: Reading) -> list[Markup]:
     if settled.log:
         parts.append(summary.acts_table(settled))
     if refused:
-        parts.append(tables.table("Refused", ["Check", "How many", "What to do"], refused, ["How many"], name="why-"))
+        columns = ["Check", "How many", "What to do"]
+        parts.append(tables.sorted_table("Refused", columns, refused, ["How many"], name="why-"))
     if waiting:
-        parts.append(tables.table("Waiting", summary.WAITING_COLUMNS, waiting, name="waits-"))
+        parts.append(tables.sorted_table("Waiting", summary.WAITING_COLUMNS, waiting, name="waits-"))
     by_hand = own.by_hand(settled.head.date)
     told = by_hand_parts(settled, by_hand) if by_hand.rows is not None else [html.paragraph("This is the first day.")]
     return [*parts, *summary.totals_parts(settled), tag("h2", "Changed by hand"), *told]
@@ -238,4 +232,4 @@ def parts_of(settled: Settled, own: Reading) -> list[Markup]:
 
 def name(served: Served) -> Any:
     """The page that asks who sits at the desk."""
-    return show("name", "Your name", known=gate.known_name(served))
+    return show_page("name", "Your name", known=gate.known_name(served))

@@ -5,20 +5,21 @@ from typing import Any
 
 import flask
 
-from registry_tools.desk import forms, gate, looks
+from registry_tools.desk import forms, gate, looks, tables
 from registry_tools.desk.jobs import Job
 from registry_tools.desk.served import Served
-from registry_tools.desk.shown import outcome, show, whys
+from registry_tools.desk.shown import outcome, show_page, whys
 from registry_tools.desk.words import count_in_words, side_by_side
 from registry_tools.errors import WordsFault
 from registry_tools.office.people import MAY_WAIT
 from registry_tools.office.words import one_line
+from registry_tools.options import word_of
 
 NUMBER, STATE = re.compile("[0-9a-f]{16}"), re.compile("[0-9a-f]{64}[.][0-9]{1,9}[.][0-9]{1,9}[.][0-9a-f]{16}")
 PLACE, AGAIN = re.compile("[1-9][0-9]{0,8}"), re.compile("([0-9]{1,3}):([1-9][0-9]{0,8})")
 NOT_WHOLE = "the form is not whole: nothing was done"
-# What an instruction that was typed is called.
-TYPED = "typed at the desk.csv"
+# Of a field that was typed so much is kept in the way back to it.
+LONGEST_FIELD = 80
 # The words of a form that are no fields of what it asks for.
 OF_FORM = {"token", "number", "state", "who", "why"}
 
@@ -77,14 +78,15 @@ def look(served: Served) -> Any:
     """What would come of files, or of one instruction. They wait in the private folder for a yes."""
     if form("place"):
         return look_at_upload(served, form("place"))
-    place = served.jobs.new_upload()
+    place, typed = served.jobs.new_upload(), {}
     if form("act"):
         table = forms.table_of_instruction(flask.request.form)
-        served.jobs.place_for(place, TYPED).write_bytes(forms.rows_of_typed(table))
+        served.jobs.place_for(place, looks.TYPED).write_bytes(forms.rows_of_typed(table))
+        typed = {name: form(name)[:LONGEST_FIELD] for name in flask.request.form if name not in OF_FORM}
     for upload in flask.request.files.getlist("files"):
         if upload.filename:
             upload.save(served.jobs.place_for(place, upload.filename))
-    return look_at_upload(served, place.name)
+    return look_at_upload(served, place.name, typed)
 
 
 def meant_again(count: int) -> list[tuple[int, int]]:
@@ -96,20 +98,22 @@ def meant_again(count: int) -> list[tuple[int, int]]:
     return pairs
 
 
-def look_at_upload(served: Served, place: str) -> Any:
-    """Shows what would be handed in by the files of an upload. Raises WordsFault if it has none."""
+def look_at_upload(served: Served, place: str, typed: dict[str, Any] | None = None) -> Any:
+    """Shows what would be handed in by the files of an upload, with a way back to the form that has what was typed.
+    Raises WordsFault if it has none."""
     paths = served.jobs.upload(place)
     if not paths:
         raise WordsFault("no file was chosen")
     again, reading, dates = meant_again(len(paths)), served.reading, form("dates")
-    own = reading.whole(lambda: looks.look_at_files(reading, paths, again, dates))
+    own = reading.whole(lambda: looks.look_at_incoming(reading, paths, again, dates))
     if own.faults and not own.meant:
         served.jobs.forget_upload(place)
     if own.meant:
         again.append(own.meant)
-    return show(
+    return show_page(
         "look", "A look before it is handed in", own=own, place=place, again=again, dates=dates, whys=whys(own.looked),
         counts=[(part.name, count_in_words(part)) for part in own.parts], names=[path.name for path in paths],
+        back=tables.address_of("/hand-in", typed or {}),
         rows=[(tried.place, tried.words, tried.said(), tried) for tried in own.looked],
         shown_row=lambda row: (row[0], row[1], outcome(row[3])),
     )  # fmt: skip
@@ -120,7 +124,7 @@ def take(served: Served) -> Any:
     place = form("place")
     if number() in served.jobs.jobs:
         return do(served, "hand-in")
-    files = served.jobs.words_of_upload(place)
+    files = [word_of(path.name) for path in served.jobs.upload(place)]
     more = [f"--again={files[own]}:{line}" for own, line in meant_again(len(files))]
     more += [f"--dates={form('dates')}"] if form("dates") else []
     return do(served, "hand-in", *more, "--", *files, upload=place)
@@ -134,16 +138,6 @@ def take_back(served: Served) -> Any:
     return do(served, "take-back", why(), "--", *places)
 
 
-def keep_look(served: Served) -> Any:
-    """Keeps what the next day looks like now: the next look tells what is new."""
-    return begin(served, "try")
-
-
-def put_right(served: Served) -> Any:
-    """Has a command put right what an interrupted one left."""
-    return begin(served, "status")
-
-
 # Changes by hand.
 
 
@@ -152,7 +146,7 @@ def look_at_change(served: Served) -> Any:
     words = forms.words_of_change(flask.request.form, served.reading)
     difference = served.reading.whole(lambda: looks.look_at_change(served.reading, words))
     fields = [(key, value) for key, value in flask.request.form.items() if key not in OF_FORM]
-    return show(
+    return show_page(
         "look_at_change", "A look before it is changed", rows=side_by_side(difference.rows()), notes=difference.notes,
         fields=fields, date=difference.after.head.date,
     )  # fmt: skip
@@ -217,5 +211,3 @@ def send(served: Served) -> Any:
             raise WordsFault("this desk releases no day")
         return do(served, "send", "--release", *own, makes=True)
     return begin(served, "send", *own, makes=True)
-
-

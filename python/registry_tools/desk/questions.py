@@ -12,9 +12,10 @@ from werkzeug.wrappers import Response
 
 from registry_tools.calendars.dates import date_of
 from registry_tools.desk.served import Served
-from registry_tools.desk.shown import asked, number_of, show
-from registry_tools.desk.words import local
+from registry_tools.desk.shown import asked, number_asked, show_page
+from registry_tools.desk.words import item_in_words, local, words_of_row
 from registry_tools.errors import FOUND, WordsFault
+from registry_tools.notes import BY_HAND
 from registry_tools.office.approvals import ASKED_FOR
 from registry_tools.office.changes import listing
 from registry_tools.office.labels import ACCOUNT
@@ -22,10 +23,11 @@ from registry_tools.pages import compliance as standing
 from registry_tools.pages import html, month
 from registry_tools.pages.html import Markup, link
 from registry_tools.pages.rulebook import document_parts
-from registry_tools.pages.settled import Settled, in_words, joined_words, outcome_in_words
+from registry_tools.pages.settled import Settled, joined_words, outcome_in_words, record_in_words
 from registry_tools.questions import compliance as answers
 from registry_tools.questions import find as finding
 from registry_tools.second import faults, rules
+from registry_tools.sheets import form
 from registry_tools.sheets.writing import Written, write_workbook
 from registry_tools.showing import as_csv
 from registry_tools.texts.in_words import grouped
@@ -46,7 +48,7 @@ def accounts(served: Served) -> Any:
     """The page of all accounts, or of those that a word finds."""
     settled, word = served.reading.settled(), asked("q")
     rows = [*account_rows(settled, word)] if settled else []
-    return show("accounts", "Accounts", rows=rows, q=word, settled=settled, shown_row=cells_of_account)
+    return show_page("accounts", "Accounts", rows=rows, q=word, settled=settled, shown_row=cells_of_account)
 
 
 def account_rows(settled: Settled, word: str) -> list[tuple[Any, ...]]:
@@ -68,13 +70,24 @@ def cells_of_account(row: Sequence[Any]) -> Sequence[Any]:
     return shown, kind, holder, status, grouped(general), grouped(aviation)
 
 
-def account(served: Served, number: str) -> Any:
+def account(served: Served, number: int) -> Any:
     """The page of an account; NotFound if there is none."""
-    parts = served.reading.account(int(number))
+    parts = served.reading.account(number)
     if parts is None:
         raise NotFound
-    history = served.reading.history(int(number)) if asked("history") else None
-    return show("account", f"Account {number}", parts=parts, number=number, history=history)
+    history = [*map(row_of_history, served.reading.history(number))] if asked("history") else None
+    return show_page("account", f"Account {number}", own=parts, number=number, history=history)
+
+
+def row_of_history(row: Sequence[Any]) -> Sequence[Any]:
+    """What became of an account, as it is shown: rows that somebody changed in words, and numbers in groups."""
+    day, record, what, outcome, *held = row
+    if outcome == BY_HAND:
+        how, _, changed = what.rpartition(" ")
+        what = f"{how} {words_of_row(changed)}"
+    elif outcome != "done":
+        outcome = f"refused: {outcome}"
+    return day, record, what, outcome, *("" if own is None else grouped(own) for own in held)
 
 
 # Compliance.
@@ -85,12 +98,12 @@ def compliance(served: Served) -> Any:
     settled = served.reading.settled()
     if settled is None:
         raise WordsFault("no day is settled yet")
-    year = number_of("year") or answers.last_year_over(settled.head)
+    year = number_asked("year") or answers.last_year_over(settled.head)
     word = asked("deadline")
     deadline = date_of("the deadline", word) if word else served.reading.office().settings.due.surrender_of(year)
 
     rows = standings_of(served, settled, year)
-    return show(
+    return show_page(
         "compliance", f"Compliance for {year}", year=year, deadline=word, rows=[*map(row_of_standing, rows)],
         columns=COLUMNS,
         counts=standing.counts_table(rows) if rows else "", until=month.until_in_words(settled.head.date, deadline),
@@ -135,9 +148,9 @@ def month_page(served: Served) -> Any:
         raise WordsFault("no day is settled yet")
     # (without a word, the month of the last day)
     begin, end = said["from"] or str(dates[0].replace(day=1)), said["to"] or str(dates[0])
-    year = number_of("year")
+    year = number_asked("year")
     title, count, parts = served.reading.month(begin=begin, end=end, year=year, deadline=said["deadline"] or None)
-    return show(
+    return show_page(
         "month", title, count=count, own=parts, begin=begin, end=end, year=year or "", deadline=said["deadline"]
     )
 
@@ -151,22 +164,23 @@ def filters() -> dict[str, Any]:
     if act not in (None, *faults.ACT_WORDS):
         raise WordsFault(f"{act}: there is no such act")
     return {
-        "account": number_of("account"), "user": number_of("user"), "act": act, "refused": bool(asked("refused")),
-        "begin": asked("from") or None, "end": asked("to") or None,
+        **{name: asked(name) or None for name in ("account", "user", "name")}, "act": act,
+        "refused": bool(asked("refused")), "begin": asked("from") or None, "end": asked("to") or None,
     }  # fmt: skip
 
 
-def found(served: Served) -> list[LogRow]:
-    """The log rows that the filters of the page find."""
+def found(served: Served) -> list[tuple[Any, ...]]:
+    """What the filters of the page find, as rows of texts."""
     own, said = served.reading, filters()
-    return own.once(("found", *said.values()), own.office().journal.last_line, lambda: [*own.found(**said)])
+    state = own.state_of_names()
+    return own.once(("found", *said.values()), state, lambda: [*map(row_of_log, own.found(**said)[0])])
 
 
 def find(served: Served) -> Any:
     """The page of log rows over all days."""
-    rows = [*map(row_of_log, found(served))] if flask.request.args else None
+    rows = found(served) if flask.request.args else None
     query = flask.request.query_string.decode("ascii", "replace")
-    return show("find", "Find", rows=rows, said=flask.request.args, query=query, shown_row=cells_of_log)
+    return show_page("find", "Find", rows=rows, said=flask.request.args, query=query, shown_row=cells_of_log)
 
 
 def row_of_log(own: LogRow) -> tuple[Any, ...]:
@@ -174,7 +188,7 @@ def row_of_log(own: LogRow) -> tuple[Any, ...]:
     i = own.instruction
     named = ", ".join(map(str, dict.fromkeys(rules.named(i))))
     by = f"{i.proposer}, {i.approver}" if i.approver else i.proposer
-    return str(own.date), own.record, in_words(own), named, by, outcome_in_words(own)
+    return str(own.date), own.record, record_in_words(own), named, by, outcome_in_words(own)
 
 
 def cells_of_log(row: Sequence[Any]) -> Sequence[Any]:
@@ -184,26 +198,32 @@ def cells_of_log(row: Sequence[Any]) -> Sequence[Any]:
     return link(f"/days/{day}", day), record, said, accounts, by, outcome
 
 
-def rows_of_find(served: Served) -> list[list[Any]]:
-    """All columns of what was found, as ./day find writes them."""
-    account = filters()["account"]
-    meant = set() if account is None else {account}
-    return [row for own in found(served) for row in finding.cells_of(own, meant)]
+def find_file(served: Served, kind: str) -> Response:
+    """What was found, with all columns of ./day find, as a file."""
+    rows, meant = served.reading.found(**filters())
+    cells = (row for own in rows for row in finding.cells_of(own, meant))
+    texts = (["" if cell is None else str(cell) for cell in row] for row in cells)
+    return file_of(served, kind, Written("found", [finding.COLUMNS.names, *texts]))
 
 
-def find_csv(served: Served) -> Response:
-    """What was found, as a file of csv."""
-    text = as_csv(finding.COLUMNS.names, rows_of_find(served)).encode("utf-8", "surrogateescape")
-    return download(text, "text/csv; charset=utf-8", "found.csv")
+def table_file(served: Served, kind: str) -> Response:
+    """An empty table for instructions or accounts; its workbook says what each column holds."""
+    what = asked("of")
+    if what not in form.WHAT:
+        raise WordsFault(f"{what}: there is no table of it")
+    told = [*form.columns_told(what)]
+    return file_of(served, kind, Written(what, [[name for name, _ in told]]), Written("columns", [form.HEAD, *told]))
 
 
-def find_xlsx(served: Served) -> Response:
-    """What was found, as a workbook."""
-    rows = (["" if cell is None else str(cell) for cell in row] for row in rows_of_find(served))
+def file_of(served: Served, kind: str, *sheets: Written) -> Response:
+    """The first of these sheets as csv, or all as a workbook."""
+    name = f"{sheets[0].name}.{kind}"
+    if kind == "csv":
+        head, *rows = sheets[0].rows
+        return download(as_csv(head, rows).encode("utf-8", "surrogateescape"), "text/csv; charset=utf-8", name)
     with tempfile.TemporaryDirectory(dir=served.jobs.private) as place:
-        path = Path(place) / "found.xlsx"
-        write_workbook(str(path), Written("found", [finding.COLUMNS.names, *rows]))
-        return download(path.read_bytes(), WORKBOOK, path.name)
+        write_workbook(f"{place}/{name}", *sheets)
+        return download(Path(place, name).read_bytes(), WORKBOOK, name)
 
 
 def download(content: bytes, kind: str, name: str) -> Response:
@@ -215,8 +235,11 @@ def journal(served: Served) -> Any:
     """The page of what was done in the folder, and changed by hand."""
     office = served.reading.office()
     events = [(local(own.at), own.event, str(own.date), own.who, own.why) for own in reversed(office.journal.events)]
-    by_hand = [(day, local(str(at)), who, why, row) for day, at, who, why, row in listing.changes_of(office)]
-    return show("journal", "Journal", events=events, by_hand=[*reversed(by_hand)])
+    by_hand = [
+        (day, local(own.part.at), own.part.who, own.part.name, item_in_words(own))
+        for day, own in listing.items_of(office)
+    ]
+    return show_page("journal", "Journal", events=events, by_hand=[*reversed(by_hand)])
 
 
 # What takes long.
@@ -224,14 +247,14 @@ def journal(served: Served) -> Any:
 
 def audit(served: Served) -> Any:
     """The page of audits."""
-    return show("audit", "Audit", jobs=served.jobs.of("audit"))
+    return show_page("audit", "Audit", jobs=served.jobs.of("audit"))
 
 
 def send(served: Served) -> Any:
     """The page of packages for holders."""
     office = served.reading.office()
     dates = [own.date for own in reversed(office.journal.filed())]
-    return show("send", "Send", dates=dates, is_released=office.journal.is_released(), jobs=served.jobs.of("send"))
+    return show_page("send", "Send", dates=dates, is_released=office.journal.is_released(), jobs=served.jobs.of("send"))
 
 
 def job(served: Served, number: str) -> Any:
@@ -241,7 +264,7 @@ def job(served: Served, number: str) -> Any:
         raise WordsFault("the desk knows nothing of this any more: Today and the journal say what was done")
     has_changed = bool(there.seen) and there.seen != flask.g.state
     date = next((word.partition("=")[2] for word in there.words if word.startswith("--date=")), "")
-    return show(
+    return show_page(
         "job", WHAT[there.command], job=there, status=there.status, has_changed=has_changed, date=date,
         is_asked_for=there.status == FOUND and any(ASKED_FOR in line for line in there.said("stdout")),
         refresh=2 if there.status is None else None,
@@ -263,4 +286,4 @@ def packages(served: Served, number: str) -> Response:
 def document(_served: Served, name: str) -> Any:
     """The page of a document."""
     title, body = document_parts(name)
-    return show("body", title, body=body)
+    return flask.render_template("base.html", page="body.html", title=title, is_in=True, body=body)

@@ -3,6 +3,7 @@ here writes into the folder."""
 import argparse
 import contextlib
 import datetime
+import gc
 import threading
 import time
 from collections import OrderedDict
@@ -11,7 +12,7 @@ from pathlib import Path
 from typing import Any, Callable, Iterator, TypeVar
 
 from registry_tools.errors import FileFault, WordsFault
-from registry_tools.office import close, composing, folder, handed, labels, lock, past, trial
+from registry_tools.office import close, composing, folder, handed, labels, lock, past, prepared, trial
 from registry_tools.office.composing import NextDay
 from registry_tools.office.folder import Office
 from registry_tools.office.journal import Event
@@ -31,27 +32,12 @@ from registry_tools.texts.report import LogRow
 T = TypeVar("T")
 # A command that moves a day into its place is seen halfway for a moment: so often it is looked again.
 TIMES, PAUSE = 5, 0.2
-# So many things that were worked out are kept, and so many days have a statement of an account.
-MOST_KEPT, DAYS_OF_STATEMENT = 12, 31
-# So many dates a list offers.
-MOST_DATES = 10
+# What takes longer than so many seconds is large.
+LONG = 1.0
+# So many things that were worked out are kept; so many days have a statement of an account, so many rows a table of a
+# month, and so many dates a list.
+MOST_KEPT, DAYS_OF_STATEMENT, MOST_ROWS, MOST_DATES = 12, 31, 100, 10
 NEXT = Path("the next day")
-
-
-class DeskBook(Rulebook):
-    """The words of the rules, with links that lead there from each page."""
-
-    def words(self, markdown: str, root: str = "") -> str:
-        """Words of Markdown, whose links lead to the top of the desk."""
-        return super().words(markdown, "/")
-
-    def check_link(self, code: int, root: str = "") -> str:
-        """A link to a check in the rules."""
-        return super().check_link(code, "/")
-
-    def act_link(self, act: str, root: str = "") -> Markup:
-        """A link to an act in the rules."""
-        return super().act_link(act, "/")
 
 
 class DeskSettled(Settled):
@@ -78,7 +64,7 @@ class Reading:
 
     def has_leftovers(self) -> bool:
         """Whether an interrupted command left something that the next one puts right."""
-        return folder.has_leftovers(self.path) and not lock.is_held(self.path / lock.NAME)
+        return prepared.has_leftovers(self.path) and not lock.is_held(self.path / lock.NAME)
 
     def holder(self) -> str:
         """Who works on the folder now; nobody, if it is free."""
@@ -119,13 +105,23 @@ class Reading:
             _, own, there = self.kept[key]
         with own:
             if not there:
+                begun = time.monotonic()
                 there.append(work())
+                if time.monotonic() - begun > LONG:
+                    # (what takes long is large: it is looked through for circles now, and not while others ask)
+                    gc.unfreeze()
+                    gc.collect()
+                    gc.freeze()
             answer: T = there[0]
             return answer
 
     def names(self) -> Labels:
         """The names of users and holders."""
         return labels.of_folder(self.path)
+
+    def state_of_names(self) -> str:
+        """What all that tells of settled days depends on: the journal, and the names."""
+        return f"{self.office().journal.last_line} {looks_of(self.path / LABELS)}"
 
     # Settled days.
 
@@ -185,17 +181,17 @@ class Reading:
         """All that became of an account, as the cells of rows."""
         return [*history.in_folder(self.asked(account=number))]
 
-    def found(self, **filters: Any) -> Iterator[LogRow]:
-        """The log rows that a question asks for."""
+    def found(self, **filters: Any) -> tuple[list[LogRow], set[int]]:
+        """The log rows that a question asks for, and the accounts that it means, if it names some."""
         said = self.asked(**filters)
-        yield from find.in_folder(said, *past.span_of(said))
+        find.take_names(said, self.names())
+        return [*find.in_folder(said, *past.span_of(said))], find.accounts_meant(said)
 
     def month(self, **more: Any) -> tuple[str, int, list[Markup]]:
         """Several days together, as the page of ./day month has them."""
         said = self.asked(**more)
         key = ("month", said.begin, said.end, said.year, said.deadline)
-        state = f"{said.opened.journal.last_line} {looks_of(self.path / LABELS)}"
-        return self.once(key, state, lambda: month.parts_of(said))
+        return self.once(key, self.state_of_names(), lambda: month.parts_of(said, MOST_ROWS))
 
     def since(self, state: str) -> Iterator[str]:
         """What was done behind a state that somebody has seen."""
@@ -257,7 +253,7 @@ class Reading:
         left = close.left_for_later(office.handed_in(), next_day.date)
 
         def work() -> close.Outcome:
-            return close.outcome_of(close.settle(office, next_day, by_second=True))
+            return close.outcome_of_day(close.settle(office, next_day, by_second=True))
 
         state = f"{folder.state_of(office)} {next_day.date}"
         return self.once(("closing", next_day.date), state, work), left
@@ -277,4 +273,4 @@ def read_settled(office: Office, event: Event) -> Settled:
     waits = read_pending(str(past.as_filed(office, event, "waiting")))
     earlier = waiting_before(waits, own.day, own.report)
     names = labels.of_folder(office.path)
-    return DeskSettled(own.day, own.report, DeskBook(), Frame([]), own.report.book.keys(), earlier, names)
+    return DeskSettled(own.day, own.report, Rulebook("/"), Frame([]), own.report.book.keys(), earlier, names)

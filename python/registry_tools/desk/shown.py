@@ -14,9 +14,9 @@ from registry_tools.texts.checks import advice_for, checks
 NUMBER = re.compile("[1-9][0-9]{0,8}", re.ASCII)
 
 
-def show(template: str, title: str, **more: Any) -> Response:
+def show_page(template: str, title: str, **more: Any) -> Response:
     """A page of this template."""
-    text = flask.render_template(f"{template}.html", title=title, is_in=True, **more)
+    text = flask.render_template("base.html", page=f"{template}.html", title=title, is_in=True, **more)
     if 'class="dense' in text or ' dense"' in text:
         # (a page with the widest tables is as wide as they are)
         text = text.replace("<body>", '<body class="broad">', 1)
@@ -28,7 +28,7 @@ def asked(name: str) -> str:
     return flask.request.args.get(name, "").strip()
 
 
-def number_of(name: str) -> int | None:
+def number_asked(name: str) -> int | None:
     """The number that a word of the address says, if it is there."""
     word = asked(name)
     if word and not NUMBER.fullmatch(word):

@@ -6,7 +6,7 @@ from typing import Any, Callable, Collection, Sequence
 
 import flask
 
-from registry_tools.pages.html import Markup, Table, joined, link, tag, visible
+from registry_tools.pages.html import Markup, Table, joined, link, tag, words_in_cell
 
 ROWS, NEAR = 100, 4
 NUMBER = re.compile("[-+]?[0-9]{1,30}")
@@ -14,15 +14,21 @@ NUMBER = re.compile("[-+]?[0-9]{1,30}")
 
 def address(**more: object) -> str:
     """The address of this page with other words in it; with None, without this word."""
+    return address_of(flask.request.path, {**flask.request.args.to_dict(), **more})
+
+
+def address_of(path: str, args: dict[str, object]) -> str:
+    """The address of a page with these words in it; with None, without this word."""
     # (not by url_for: words of the address such as _external would be its own)
-    args: dict[str, object] = {**flask.request.args.to_dict(), **more}
     query = urllib.parse.urlencode({key: own for key, own in args.items() if own is not None}, errors="replace")
-    return urllib.parse.quote(flask.request.path) + (f"?{query}" if query else "")
+    return urllib.parse.quote(path) + (f"?{query}" if query else "")
 
 
 def sort_key(cell: object) -> tuple[bool, int, str]:
     """Numbers by what they are, and behind them words."""
-    text = visible(cell)
+    if isinstance(cell, int):
+        return False, cell, ""
+    text = words_in_cell(cell)
     digits = text.replace(",", "")
     return (False, int(digits), "") if NUMBER.fullmatch(digits) else (True, 0, text)
 
@@ -44,7 +50,7 @@ def heads(columns: Sequence[str], key: str, word: str) -> list[object]:
     ]
 
 
-def table(
+def sorted_table(
     caption: str,
     columns: Sequence[str],
     rows: Sequence[Sequence[Any]],
@@ -58,16 +64,11 @@ def table(
     word = flask.request.args.get(sort, "")
     rows = sorted_rows(columns, rows, word)
     last = max(-(-len(rows) // ROWS), 1)
-    number = min(max(number_of(flask.request.args.get(page, "")), 1), last)
+    number = min(max(flask.request.args.get(page, 1, type=int), 1), last)
     part = [["" if cell is None else cell for cell in show(row)] for row in rows[(number - 1) * ROWS : number * ROWS]]
     own = Table(columns, right, heads=heads(columns, sort, word) if len(rows) > 1 else None)
     counted = f"{caption} ({len(rows):,})" if last > 1 else caption
     return joined(own.of(counted, part), *([ways(page, number, last)] if last > 1 else []))
-
-
-def number_of(word: str) -> int:
-    """The number of a page that an address names; else the first."""
-    return int(word) if re.fullmatch("[0-9]{1,9}", word, re.ASCII) else 1
 
 
 def ways(page: str, number: int, last: int) -> Markup:

@@ -1,13 +1,18 @@
 """How the desk says things to people: fields, times, dates, rows."""
 import datetime
 import re
+from typing import Collection
 
+from registry_tools import tables
+from registry_tools.calendars.working_days import MORE_WORK
 from registry_tools.errors import escaped
 from registry_tools.office import handed
+from registry_tools.office.changes import edits
 from registry_tools.office.handed import Item
+from registry_tools.office.incoming import EMPTY_TABLE
 from registry_tools.pages.html import markup
-from registry_tools.pages.settled import long_date
-from registry_tools.second import faults
+from registry_tools.sheets.importing import OTHER_FORM
+from registry_tools.sheets.table import OTHER_HEADINGS
 from registry_tools.texts import in_words
 
 # What the fields of an instruction are called.
@@ -17,16 +22,20 @@ FIELDS = {
     "kind": "Kind of allowance", "amount": "Amount", "number": "Record of the surrender or deletion",
     "status": "New status", "year": "Year", "tonnes": "Tonnes",
 }  # fmt: skip
-# What the fields of an account and of the rules are called.
-OF_ACCOUNT = {
-    "NO": "number", "KIND": "kind", "HOLDER": "holder", "STATUS": "status", "OUTSIDE": "transfers outside the list",
-    "WAIVER": "waiver of approval", "CORRECTION": "correction", "GENERAL": "general", "AVIATION": "aviation",
-}  # fmt: skip
+# What words of the texts are called, and what a change by hand does.
+HOW = {edits.PUT: "set", edits.ADD: "add", edits.DROP: "leave out"}
+CALLED = {"both": "propose and approve", **tables.KINDS, **{act.word: act.name for act in tables.ACTS}}
 LAGS = {
     "trusted": "Working days that a transfer to an account of the trusted list waits",
     "other": "Working days that another transfer waits",
     "list": "Working days until an addition to a trusted list is in effect",
     "reversal": "Working days in which a surrender or a deletion can be reversed",
+}  # fmt: skip
+# What the fields of an account and of the lags are called, in the order of their rows.
+FIELDS_OF = {
+    "account": ["number", "kind", "holder", "status", "transfers outside the list", "waiver of approval", "correction",
+                "general", "aviation"],
+    "lags": ["lag of trusted transfers", "lag of other transfers", "lag of additions", "window of reversals"],
 }  # fmt: skip
 # What people know the items by that are handed in, one of them and several.
 ITEMS = {
@@ -34,6 +43,18 @@ ITEMS = {
     handed.DO: ("instruction", "instructions"), handed.CHANGES: ("account", "accounts"),
     handed.EDITS: ("change by hand", "changes by hand"), handed.WORK: ("working day", "working days"),
 }  # fmt: skip
+# What messages say of words of commands, and what does the same here; and the page of a command. (Who works on the
+# folder is told by the command itself.)
+AT_THE_DESK = {
+    OTHER_FORM: "another form is chosen with the file",
+    EMPTY_TABLE: "the page Hand in has empty tables", OTHER_HEADINGS: "the page Hand in has empty tables",
+    MORE_WORK: "add working days (Change, the rules)", "--release releases it": "its box on the page Send releases it",
+}  # fmt: skip
+PAGES = {
+    "hand-in": "Hand in", "take-back": "The next day", "try": "The next day", "change": "Change", "close": "Close",
+    "undo": "Days", "release": "Days", "status": "Today", "approve": "Today", "audit": "Audit", "send": "Send",
+}  # fmt: skip
+COMMAND = re.compile(rf"\./day ({'|'.join(PAGES)})\b(?! of )(?: [0-9][0-9-]*)?")
 # A time of the journal.
 TIME = re.compile("[0-9]{4}-[0-9]{2}-[0-9]{2}T[0-9]{2}:[0-9]{2}:[0-9]{2}Z")
 # What nobody sees, or turns the order of letters round: a page shows it by its number. (UTF-8 has no surrogates.)
@@ -57,28 +78,24 @@ def local(at: str) -> str:
     return moment.astimezone().strftime("%Y-%m-%d %H:%M")
 
 
-def date_in_words(date: datetime.date) -> str:
-    """A date as people write it."""
-    return long_date(date)
-
-
 def item_in_words(item: Item) -> str:
     """Something that was handed in."""
-    row = item.rows[0]
-    fields = row.split(",")
+    fields = item.rows[0].split(",")
     if item.part.kind in (handed.DO, handed.FIRST):
         return in_words.words_of(fields[4], fields[5:])
     if item.part.kind == handed.WORK:
         return f"working day {fields[1]}"
     more = f" and {len(item.rows) - 1} rows" if len(item.rows) > 1 else ""
-    return f"account {fields[1]}, as a whole{more}" if item.part.kind == handed.CHANGES else edit_in_words(fields)
+    return f"account {fields[1]}, as a whole{more}" if item.part.kind == handed.CHANGES else edit_in_words(item.rows[0])
 
 
-def edit_in_words(fields: list[str]) -> str:
+def edit_in_words(row: str) -> str:
     """A change by hand, of its row."""
-    of = f"account {fields[1]}" if fields[0] == "account" else "the rules"
-    how, *rest = fields[2:] if fields[0] == "account" else fields[1:]
-    return f"{of}: {how} {' '.join(rest)}"
+    own = edits.edit_of(row)
+    of = f"account {own.number}" if own.number else "the rules"
+    if own.how == edits.OPEN:
+        return f"{of} is new: {CALLED[own.words[0]]}, holder {own.words[1]}"
+    return f"{of}: {HOW[own.how]} {words_of_row(','.join(own.words))}"
 
 
 def count_in_words(part: handed.Part) -> str:
@@ -107,32 +124,27 @@ def key_length(tag: str) -> int:
 
 
 def pair_in_words(before: str, after: str) -> tuple[str, str]:
-    """Two rows in words; of an account that stays, only what differs."""
+    """Two rows in words; of an account or of lags that stay, only what differs."""
     old, new = before.split(","), after.split(",")
-    if before and after and old[0] == "account":
-        places = [place for place, (one, other) in enumerate(zip(old, new)) if place and one != other]
-        return account_in_words(old, places), account_in_words(new, places)
-    return row_in_words(before), row_in_words(after)
+    same = {place for place, (one, other) in enumerate(zip(old, new)) if before and after and one == other}
+    return words_of_row(before, same), words_of_row(after, same)
 
 
-def account_in_words(fields: list[str], places: list[int]) -> str:
-    """The fields at these places of an `account` row, each with its name."""
-    names = [field.name for field in faults.FIELDS["account"]]
-    return ", ".join(f"{OF_ACCOUNT[names[place - 1]]} {fields[place]}" for place in places)
-
-
-def row_in_words(row: str) -> str:
-    """A row of an account or of the rules."""
-    if not row:
-        return "nothing"
+def words_of_row(row: str, left_out: Collection[int] = ()) -> str:
+    """A row of an account or of the rules. Where each field has a name, those at some places may be left out."""
     tag, *fields = row.split(",")
-    if tag == "account":
-        return account_in_words([tag, *fields], [*range(1, len(fields) + 1)])
-    return f"{tag} {' '.join(fields)}"
+    if tag in FIELDS_OF:
+        named = enumerate(zip(FIELDS_OF[tag], fields), 1)
+        return ", ".join(f"{name}: {field}" for place, (name, field) in named if place not in left_out)
+    more = ": " + " ".join(CALLED.get(own, own) for own in fields[1:]) if len(fields) > 1 else ""
+    return f"{tag} {fields[0]}{more}" if fields else "nothing"
 
 
 def seen(text: str, office: str) -> str:
-    """The text of a page as it goes out. Messages name files by their paths, and times in UTC: here those of the folder
-    begin in it, and times are of this machine."""
+    """The text of a page as it goes out. Messages name files by their paths, times in UTC, and words of commands: here
+    files of the folder begin in it, times are of this machine, and pages stand in place of the words."""
+    for what, here in AT_THE_DESK.items():
+        text = text.replace(what, here)
+    text = COMMAND.sub(lambda found: f"the page {PAGES[found[1]]}", text)
     text = TIME.sub(lambda found: local(found[0]), text.replace(f"{markup(office)}/", ""))
     return UNSEEN.sub(lambda found: markup(escaped(found[0])), text)

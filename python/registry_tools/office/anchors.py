@@ -161,4 +161,3 @@ def keygen(what: str, words: list[str], text: str, key: Path) -> str:
         said = ran.stderr.decode("utf-8", "replace").strip().replace("\n", " ")
         raise FileFault(key, 0, "key", f"ssh-keygen -Y {what}: {said}", "a key that signs anchors")
     return ran.stdout.decode("ascii", "replace")
-

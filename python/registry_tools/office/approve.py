@@ -15,7 +15,7 @@ import argparse
 from registry_tools import streams
 from registry_tools.calendars import dates
 from registry_tools.errors import WordsFault
-from registry_tools.office import approvals, composing, files, folder, handed, people, words
+from registry_tools.office import approvals, awaited, composing, files, folder, handed, people, words
 from registry_tools.office.approvals import COMMAND_OF, Asked
 from registry_tools.office.folder import Office
 from registry_tools.office.handed import HandedIn, Part
@@ -39,7 +39,7 @@ def run(said: argparse.Namespace) -> int:
     """Runs the command, and answers the exit status."""
     who = words.one_line("--who", said.who)
     if not said.what:
-        return show(said)
+        return show_waiting(said)
     with folder.locked(said.office, "approve", who, folder.to_errors, said.seen, said.whom) as office:
         if said.what[0] in OF_DATES:
             return approve_command(office, said, who)
@@ -52,11 +52,11 @@ def run(said: argparse.Namespace) -> int:
     return 0
 
 
-def show(said: argparse.Namespace) -> int:
+def show_waiting(said: argparse.Namespace) -> int:
     """Shows what waits for whom."""
     office = folder.opened(said.office, folder.to_errors)
     handed_in = office.handed_in()
-    lines = [*approvals.told(office, handed_in)]
+    lines = [*awaited.told(office, handed_in)]
     for part in handed_in.waiting:
         rows = [row for item in handed_in.items(part.kind) if item.part is part for row in item.rows]
         lines += [f"  {part.start}: {part.name}", *(f"    {row}" for row in rows)]
@@ -89,14 +89,14 @@ def approve_part(office: Office, handed_in: HandedIn, part: Part, who: str) -> N
         raise WordsFault(f"place {part.start} was taken back")
     where = handed.places(part.start, part.end)
     left = approvals.approve(office, approvals.sum_of_part(handed_in, part), where, who)
-    print(f"approved: {where}, by {approvals.in_words(office, part.who, part.login)}: {part.name}{left}")
+    print(f"approved: {where}, by {awaited.who_did(office, part.who, part.login)}: {part.name}{left}")
     print("\n".join(f"  {row}" for item in items for row in item.rows))
 
 
 def must_be_other(office: Office, command: str, who: str, login: str) -> None:
     """Ends the command if this login asked for it, or may not do it."""
     if people.person_of(login) == people.person_of(office.login):
-        raise WordsFault(f"{approvals.in_words(office, who, login)} asked for it: another login approves it")
+        raise WordsFault(f"{awaited.who_did(office, who, login)} asked for it: another login approves it")
     people.must_be_allowed(office.people, office.login, command)
 
 
@@ -116,7 +116,7 @@ def approve_command(office: Office, said: argparse.Namespace, who: str) -> int:
     must_be_other(office, command, asked.who, asked.login)
     must_be_same(office, asked)
     left = approvals.approve(office, asked.sum, str(asked), who)
-    by = approvals.in_words(office, asked.who, asked.login)
+    by = awaited.who_did(office, asked.who, asked.login)
     print(f"approved: {asked}, asked for by {by}: another login than {office.login} gives it again{left}")
     return 0
 

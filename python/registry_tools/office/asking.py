@@ -93,9 +93,7 @@ def balance(database: sqlite3.Connection, account: int, date: str) -> dict[str, 
             (account, since),
         )
     }
-    return {
-        kind: Sums(own, gone["surrender", kind], gone["deletion", kind]) for kind, own in zip(rules.KINDS, held)
-    }
+    return {kind: Sums(own, gone["surrender", kind], gone["deletion", kind]) for kind, own in zip(rules.KINDS, held)}
 
 
 def hand_changes(database: sqlite3.Connection, where: str, *values: object) -> Iterator[tuple[str, HandChange]]:

@@ -24,29 +24,28 @@ import argparse
 import datetime
 import itertools
 import sqlite3
-from dataclasses import dataclass, field
-from pathlib import Path
 from typing import Iterator
 
 from registry_tools import showing
 from registry_tools.calendars import dates
-from registry_tools.errors import FOUND, FileFault, WordsFault, shown
+from registry_tools.errors import FOUND, FileFault, WordsFault
 from registry_tools.notes import LOOK, counted
 from registry_tools.office import (
-    anchors, approvals, composing, files, folder, handed, index, journal, lock, past, settling, words,
+    anchors, approvals, files, folder, handed, index, journal, lock, past, settings, settling, words,
 )  # fmt: skip
-from registry_tools.office.composing import NextDay
+from registry_tools.office.audited import (
+    APPROVES_NOTHING, JOURNAL_BACK, JOURNAL_FIRST, NEXT_BACK, OTHER_FOLDER, WAITS_BACK, Audit, compare_texts,
+)  # fmt: skip
 from registry_tools.office.folder import Office
-from registry_tools.office.handed import FIRST, HandedIn
 from registry_tools.office.journal import Event, Journal
 from registry_tools.office.layout import DAYS, JOURNAL, SETTINGS
 from registry_tools.office.past import PastDay
+from registry_tools.office.seams import look_at_day
+from registry_tools.office.waits import waits_text
 from registry_tools.output import write_answer
 from registry_tools.progress import progress
-from registry_tools.texts.day_text import DayText, read_day
-from registry_tools.texts.follows import differences
-from registry_tools.texts.report import Report, read_report
-from registry_tools.texts.rows import bytes_of
+from registry_tools.texts.day_text import DayText
+from registry_tools.texts.report import Report
 
 EXAMPLE = "./day audit --second --office out/office"
 
@@ -63,61 +62,20 @@ def add_words(parser: argparse.ArgumentParser) -> None:
     showing.add_words(parser)
 
 
-# How what is found is mended.
-JOURNAL_BACK = "put the journal back from a copy: audit --anchors tells whether it is the right one"
-JOURNAL_FIRST = "mend the journal first, and audit again"
-FILES_FIRST = "mend the files of this day first, and audit again"
-SETTLE_AGAIN = "./day undo takes the days back to this one, to be closed again; if released, a later day corrects it"
-AWAY, NEXT_BACK = "move it to another folder", "put it back from a copy, or take it back and hand it in again"
-WAITS_BACK = "put it back from a copy: else ./day undo and ./day close of the last day write it anew"
-APPROVES_NOTHING = "take the file away: it approves nothing"
-OTHER_FOLDER = "look for the folder or the copy that has grown from there"
-
-
-@dataclass
-class Audit:
-    """What was found."""
-
-    office: Office
-    found: list[FileFault] = field(default_factory=list)
-    told: set[str] = field(default_factory=set)
-    # The days whose files are not as they were filed.
-    changed: set[datetime.date] = field(default_factory=set)
-    days: int = 0
-    # What to do about files that the journal does not name: not before it is as it was.
-    away: str = AWAY
-
-    def mending(self, date: datetime.date) -> str:
-        """How a difference of a day is mended: first its files, if they are not as they were filed."""
-        return FILES_FIRST if date in self.changed else SETTLE_AGAIN
-
-    def add(self, *faults: FileFault, mend: str = "") -> None:
-        """Adds what was found, and how it is mended, each once: a file that lacks is missed by each that reads it."""
-        for fault in faults:
-            # (what to do about it is said by the first one alone)
-            told = str(fault) if fault.expected else str(fault).partition(";")[0]
-            if told not in self.told:
-                self.told.add(told)
-                self.found.append(fault)
-                if mend and folder.PUT_BACK not in str(fault):
-                    words = "expected" if fault.expected else "found"
-                    setattr(fault, words, f"{getattr(fault, words)}; {mend}")
-
-
 def run(said: argparse.Namespace) -> int:
     """Runs the command, and answers the exit status."""
     path = folder.folder_of(said.office)
     folder.put_right_if_free(path, folder.to_errors)
     begin = past.date_or("--from", said.begin, datetime.date.min)
-    settings = folder.read_settings(path / SETTINGS)
+    named = settings.read(path / SETTINGS)
     there = Journal(path / JOURNAL, files.bytes_in(path / JOURNAL).decode("utf-8", "surrogateescape"))
     is_changing = lock.is_held(path / lock.NAME)
-    audit = Audit(Office(path, settings, there))
+    audit = Audit(Office(path, named, there))
     for fault in journal.faults_of(there):
         audit.add(fault, mend=JOURNAL_BACK)
         audit.away = JOURNAL_FIRST
     look_at_heads(audit, said)
-    look_at_files(audit)
+    look_at_filed_files(audit)
     audit.add(*audit.office.changed_labels())
     look_at_next(audit)
     with index.there(audit.office) as database:
@@ -188,7 +146,7 @@ def look_at_heads(audit: Audit, said: argparse.Namespace) -> None:
 # Files.
 
 
-def look_at_files(audit: Audit) -> None:
+def look_at_filed_files(audit: Audit) -> None:
     """Tells files that are not as they were filed, or that no command put there."""
     office = audit.office
     filed = office.journal.filed()
@@ -260,7 +218,7 @@ def look_at_index(
         return
     event, day, report = own
     old = (before[2], before[1].heading) if before else (None, [])
-    audit.add(*index.differences(database, audit.office, PastDay(day, report, *old)))
+    audit.add(*index.differences_from_files(database, audit.office, PastDay(day, report, *old)))
 
 
 def look_at_waits(audit: Audit, last: tuple[Event, DayText, Report] | None) -> None:
@@ -270,93 +228,7 @@ def look_at_waits(audit: Audit, last: tuple[Event, DayText, Report] | None) -> N
     event, day, report = last
     path = audit.office.next_folder / handed.WAITS
     try:
-        expected = composing.waits_text(day, report, str(audit.office.file(event, "waiting")))
-        compare(audit, path, files.bytes_in(path), expected, f"the day {event.date}", WAITS_BACK)
+        expected = waits_text(day, report, str(audit.office.file(event, "waiting")))
+        compare_texts(audit, path, files.bytes_in(path), expected, f"the day {event.date}", WAITS_BACK)
     except FileFault as fault:
         audit.add(fault, mend=WAITS_BACK)
-
-
-def look_at_day(
-    audit: Audit, event: Event, before: tuple[Event, DayText, Report] | None, by_program: bool, by_second: bool
-) -> tuple[Event, DayText, Report]:
-    """Tells where a filed pair is not what its journal says, or what follows from the day before."""
-    office = audit.office
-    day = read_day(str(office.file(event, "day")), before and before[2].known(before[1]))
-    report = read_report(str(office.file(event, "report")), day)
-    audit.days += 1
-    mend = audit.mending(event.date)
-    audit.add(*differences(day, report), mend=mend)
-    for name, there, expected in (
-        ("date", day.head.date, event.date),
-        ("first", day.head.next_record, event.first),
-        ("next", report.next_record, event.next),
-    ):
-        if there != expected:
-            expected = f"{expected}, as {office.journal.path} says"
-            audit.add(FileFault(day.path, day.line_of_tag("day"), name, there, expected), mend=mend)
-    look_at_seam(audit, event, day, before)
-    text = bytes_of(report.path)
-    if by_program:
-        try:
-            settled = settling.by_engine(office.settings.program, bytes_of(day.path), day.path)
-            compare(audit, report.path, text, settled, "the program", mend)
-        except FileFault as fault:
-            # (the pair was read: the next day is looked at behind it)
-            audit.add(fault, mend=mend)
-    if by_second:
-        compare(audit, report.path, text, settling.by_rules(day), "the second answer", mend)
-    return event, day, report
-
-
-def look_at_seam(audit: Audit, event: Event, day: DayText, before: tuple[Event, DayText, Report] | None) -> None:
-    """Whether the day's text and what waits are what the day before and the files that were handed in make."""
-    office = audit.office
-    path = office.file(event, "handed")
-    filed = handed.from_text(path.parent, path, files.bytes_in(path))
-    is_first = any(part.kind == FIRST for part in filed.parts)
-    if not is_first and before is None:
-        return
-    composed = first_again(office, event, day, filed) if is_first else later_again(office, event, before)
-    mend = audit.mending(event.date)
-    compare(audit, day.path, bytes_of(day.path), composed.text, "what was handed in", mend)
-    waiting = office.file(event, "waiting")
-    compare(audit, str(waiting), files.bytes_in(waiting), composed.waiting_text(), "what was handed in", mend)
-
-
-def first_again(office: Office, event: Event, day: DayText, filed: HandedIn) -> NextDay:
-    """The first day of its own first rows and what was handed in."""
-    count = next(part.count for part in filed.parts if part.kind == FIRST)
-    new = files.bytes_in(office.file(event, "do")).decode("utf-8", "surrogateescape").splitlines()
-    rows = [*day.source.rows[: day.first_do + count], *new, "end"]
-    return NextDay(event.date, event.first, handed.text_of_rows(rows), [], [], [], {})
-
-
-def later_again(office: Office, event: Event, before: tuple[Event, DayText, Report] | None) -> NextDay:
-    """The day made once more of what was handed in for it. Raises FileFault if that cannot be done."""
-    assert before is not None
-    last, day, report = before
-    paths = {kind: path_of_rows(office.file(event, kind)) for kind in composing.MERGED}
-    try:
-        return composing.later_text(day, report, event.date, paths, str(office.file(last, "waiting")))
-    except WordsFault as fault:
-        raise FileFault(office.day_folder(event.date), 0, "", str(fault), "") from None
-
-
-def path_of_rows(path: Path) -> str | None:
-    """A file of rows; none, if nothing is in it."""
-    return str(path) if files.bytes_in(path) else None
-
-
-def compare(audit: Audit, path: str | Path, text: bytes, expected: bytes, whose: str, mend: str) -> None:
-    """Tells the first row in which a text is not what is expected."""
-    if text == expected:
-        return
-    rows, others = (content.decode("utf-8", "surrogateescape").split("\n") for content in (text, expected))
-    pairs = itertools.zip_longest(rows, others)
-    number, row, other = next((number, *pair) for number, pair in enumerate(pairs, 1) if pair[0] != pair[1])
-    audit.add(FileFault(path, number, "row", row_in_words(row), f"{row_in_words(other)}, by {whose}"), mend=mend)
-
-
-def row_in_words(row: str | None) -> str:
-    """A row as a fault tells it."""
-    return "the end of the file" if row is None else shown(row)

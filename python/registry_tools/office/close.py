@@ -26,15 +26,18 @@ from registry_tools.calendars.due_days import NOT_DUE
 from registry_tools.errors import FOUND, WordsFault
 from registry_tools.notes import LOOK, worth_telling
 from registry_tools.office import (
-    approvals, composing, files, folder, handed, index, journal, settling, sources, words,
+    approvals, composing, files, folder, handed, handed_files, index, journal, prepared, settling, sources,
+    words,
 )  # fmt: skip
 from registry_tools.office.composing import NextDay
-from registry_tools.office.folder import Change, Office
+from registry_tools.office.folder import Office
 from registry_tools.office.handed import HandedIn
 from registry_tools.office.journal import FILED, FILES, Event
 from registry_tools.office.layout import TABLES
 from registry_tools.office.past import PastDay
 from registry_tools.office.settling import Engine
+from registry_tools.office.waits import write_waits
+from registry_tools.office.whole_change import Change
 from registry_tools.options import Words
 from registry_tools.pages import page
 from registry_tools.questions import statements
@@ -94,18 +97,18 @@ def run(said: argparse.Namespace) -> int:
             return FOUND
         settled = settle(office, composed, said.second, said.verify)
         with Change(office) as change:
-            filed = file_day(office, change.make(folder.NEW_DAY), mine, settled, who)
+            filed = file_day(office, change.make(prepared.NEW_DAY), mine, settled, who)
             event = office.signed(filed, approved)
-            there = handed.begin(change.make(folder.NEW_NEXT), event.line)
-            handed.put_left(there, handed_in, later)
-            waiting = change.folder / folder.NEW_DAY / FILES["waiting"]
-            composing.write_waits(there.folder, settled.day, settled.report, str(waiting))
+            there = handed_files.begin(change.make(prepared.NEW_NEXT), event.line)
+            handed_files.put_left(there, handed_in, later)
+            waiting = change.folder / prepared.NEW_DAY / FILES["waiting"]
+            write_waits(there.folder, settled.day, settled.report, str(waiting))
             there.keep()
             change.keep(event)
         index.keep_up(office, event, past_day_of(settled))
     # (it is another one on each machine, and the answer is not)
     folder.to_errors(f"settled by {settled.engine}\nhead: {office.journal.head}")
-    print(streams.by_name("\n".join([*summary(outcome_of(settled), said.second), *left])))
+    print(streams.by_name("\n".join([*summary(outcome_of_day(settled), said.second), *left])))
     return 0
 
 
@@ -124,7 +127,7 @@ def left_for_later(handed_in: HandedIn, date: datetime.date) -> list[str]:
         left.append(f"{LOOK}: not in this day, and waits for another login: {', '.join(places)}; see ./day approve")
     items = [item for item in handed_in.items(*handed.KINDS) if item.part.is_of_later(date)]
     if items:
-        first = min(item.part.day for item in items if item.part.day)
+        first = min(item.part.earliest for item in items if item.part.earliest)
         left.append(
             f"{LOOK}: not in this day, and handed in for {first} or later: {len(items)}; ./day status shows them"
         )
@@ -220,7 +223,7 @@ class Outcome:
     compliant: list[str]
 
 
-def outcome_of(settled: Settled) -> Outcome:
+def outcome_of_day(settled: Settled) -> Outcome:
     """What came of a settled day, as it is told."""
     day, report = settled.day, settled.report
     refused: dict[str, int] = {}

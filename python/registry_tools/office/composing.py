@@ -3,7 +3,6 @@ import contextlib
 import datetime
 import gzip
 import itertools
-import re
 import tempfile
 import zlib
 from dataclasses import dataclass, field, replace
@@ -12,15 +11,15 @@ from typing import Iterator
 
 from registry_tools import tables
 from registry_tools.calendars import dates, working_days as calendars
-from registry_tools.calendars.due_days import due_day_after, head_after
-from registry_tools.errors import FileFault, WordsFault, shown
+from registry_tools.errors import FileFault, WordsFault
 from registry_tools.notes import BY_HAND, Notes
-from registry_tools.office import next as next_day, files, handed, past
+from registry_tools.office import handed, next as next_day, past
 from registry_tools.office.changes import edits
-from registry_tools.office.changes.edits import Edit, EditFault
+from registry_tools.office.changes.edits import EditFault
 from registry_tools.office.folder import Office
 from registry_tools.office.handed import CHANGES, DO, EDITS, FIRST, WORK, HandedIn, Item
 from registry_tools.office.journal import Event
+from registry_tools.office.merged import Merged, contents_of, edited_changes, edits_in, written
 from registry_tools.second import faults, rules
 from registry_tools.texts import pending
 from registry_tools.texts.accounts import Accounts, Reader
@@ -28,18 +27,6 @@ from registry_tools.texts.day_text import DayText, day_of
 from registry_tools.texts.repeated import tell_dates
 from registry_tools.texts.report import Report
 from registry_tools.texts.rows import Rows, rows_of_text
-
-
-# What is merged into one file of a filed day, and what it is called as a whole.
-MERGED = (DO, CHANGES, EDITS, WORK)
-WHAT = {
-    DO: "the instructions handed in", CHANGES: "the accounts handed in", EDITS: "the changes handed in",
-    WORK: "the working days handed in",
-}  # fmt: skip
-
-
-# How a row begins behind which the rows of an account stand.
-ACCOUNT = re.compile("account,([0-9]{1,9}),")
 
 
 @dataclass
@@ -80,7 +67,7 @@ def settlement_date(word: str | None, office: Office, handed_in: HandedIn) -> da
         return first.head.date
     last = office.last()
     assert last is not None  # (without a filed day there is the first text)
-    undone = [item.part.day for item in handed_in.items(*handed.KINDS) if item.part.day]
+    undone = [item.part.earliest for item in handed_in.items(*handed.KINDS) if item.part.earliest]
     if undone:
         return min(undone)
     later = [date for date in working_days(office, last, handed_in) if date > last.date]
@@ -126,11 +113,6 @@ def filed_calendar(office: Office, event: Event) -> list[datetime.date]:
     except (OSError, EOFError, zlib.error, ValueError) as error:
         raise FileFault(path, 0, "", f"it cannot be read: {error}", "") from None
     return days
-
-
-def contents_of(handed_in: HandedIn) -> dict[str, bytes]:
-    """What was handed in, the files of each kind as one."""
-    return {kind: handed.text_of_rows([row for item in handed_in.items(kind) for row in item.rows]) for kind in MERGED}
 
 
 @contextlib.contextmanager
@@ -205,46 +187,6 @@ def later_day(office: Office, handed_in: HandedIn, date: datetime.date) -> NextD
     return replace(composed, new=[*handed_in.items(DO)], contents=contents, before=(day, report))
 
 
-class Merged:
-    """The files that are merged of what was handed in. Nobody finds them later: a message names the file that was
-    handed in, with its line."""
-
-    def __init__(self, work: str, handed_in: HandedIn) -> None:
-        self.work = work
-        self.rows = {
-            f"{work}/{kind}.csv": [(item, line) for item in handed_in.items(kind) for line in item.lines]
-            for kind in (DO, CHANGES, WORK)
-        }
-        self.path = re.compile(rf"({re.escape(work)}/(?:\w+/)?\w+\.csv)(?::([0-9]+))?")
-
-    def origin(self, path: str, line: int) -> tuple[str, int]:
-        """Where a row of a merged file came from. A block of several changes has no single line."""
-        item, own = self.item(path, line)
-        return (item.part.name, own) if item else (WHAT[Path(path).stem], 0)
-
-    def item(self, path: str, line: int) -> tuple[Item | None, int]:
-        """What was handed in that has a row of a merged file, and the line where it has it."""
-        rows = self.rows.get(path, [])
-        return rows[line - 1] if 0 < line <= len(rows) else (None, 0)
-
-    def with_origins(self, note: str) -> str:
-        """A line in which each place of the merged file is that of the file that it came from."""
-        return self.path.sub(self.named, note)
-
-    def named(self, found: re.Match[str]) -> str:
-        """The file and the line from which a place of the merged file came."""
-        name, line = self.origin(found[1], int(found[2] or 0))
-        return f"{name}:{line}" if line else name
-
-
-def written(path: Path, content: bytes) -> str | None:
-    """A file with a content; none, if there is nothing in it."""
-    if not content:
-        return None
-    files.write_synced(path, content)
-    return str(path)
-
-
 def later_text(
     day: DayText, report: Report, date: datetime.date, paths: dict[str, str | None], waits: str, work: str | None = None
 ) -> NextDay:
@@ -258,7 +200,7 @@ def later_text(
         book = next_day.book_with_changes(day, report, changes, notes, head.periods)
     notes.lines += [
         f"{BY_HAND}: the rules: {difference}"
-        for difference in edits.differences(day.heading, heading)
+        for difference in edits.rows_gone_and_come(day.heading, heading)
         if not difference[2:].startswith(("day,", "work,"))
     ]
     head = replace(head, accounts=Accounts(book))
@@ -271,7 +213,7 @@ def later_text(
     next_day.check_count(report.next_record, len(entered) + len(new))
     rows = heading
     rows += report.book_rows if book is report.book else [row for block in book.values() for row in block.rows]
-    rows += [*(waits.do_row() for waits in entered), *new.rows, "end"]
+    rows += [*(waits.instruction.row for waits in entered), *new.rows, "end"]
     return NextDay(date, report.next_record, handed.text_of_rows(rows), waiting, entered, [], {}, notes.lines)
 
 
@@ -279,7 +221,8 @@ def about_past(before: DayText, calendar: list[datetime.date], head: rules.Day) 
     """Tells if a hand changes the working days before the day."""
     dates = [date for date in sorted({*calendar} ^ {*head.working_days}) if date <= before.head.date]
     if dates:
-        yield f"the calendar of settled days changes, and with it due days and windows: {calendars.in_words(dates)}"
+        changed = calendars.days_in_words(dates)
+        yield f"the calendar of settled days changes, and with it due days and windows: {changed}"
 
 
 def head_of(heading: list[str]) -> rules.Day:
@@ -287,78 +230,7 @@ def head_of(heading: list[str]) -> rules.Day:
     reader = Reader(Rows("the first rows of the next day", heading, range(1, len(heading) + 1)), faults.Reading())
     for place in range(len(heading)):
         reader.add(place)
-    return rules.day_of(row.split(",") for row in heading)
-
-
-def rows_in(path: str | None) -> list[str]:
-    """The rows of a file; none, if there is none."""
-    return files.bytes_in(Path(path)).decode("utf-8", "surrogateescape").splitlines() if path else []
-
-
-def edits_in(path: str | None) -> list[Edit]:
-    """The differences of a file, which a command of the folder wrote: each other row is a fault of the file."""
-    made = []
-    for line, row in enumerate(rows_in(path), 1):
-        try:
-            made.append(edits.edit_of(row))
-            edits.must_be_readable(made[-1])
-        except WordsFault:
-            raise FileFault(str(path), line, "row", shown(row), "a change by hand, as ./day change writes it") from None
-    return made
-
-
-def blocks_in(path: str | None) -> dict[int, list[str]]:
-    """The rows of each account of a file of accounts, which need not rise."""
-    blocks: dict[int, list[str]] = {}
-    own: list[str] | None = None
-    for line, row in enumerate(rows_in(path), 1):
-        begins = ACCOUNT.match(row)
-        if begins:
-            own = blocks[int(begins[1])] = []
-        if own is None or (row.startswith("account,") and not begins):
-            raise FileFault(str(path), line, "row", shown(row), "accounts, as they were handed in")
-        own.append(row)
-    return blocks
-
-
-@contextlib.contextmanager
-def edited_changes(
-    made: list[Edit], report: Report, path: str | None, work: str | None
-) -> Iterator[str | None]:
-    """A file of the accounts that are changed by hand: by whole blocks, and by differences. Without differences, the
-    file of blocks, if its accounts rise."""
-    blocks = blocks_in(path)
-    if not any(edit.number for edit in made) and [*blocks] == sorted(blocks):
-        yield path
-        return
-    changed = edits.edited_blocks(made, report, blocks)
-    with tempfile.TemporaryDirectory(dir=work) as inner:
-        yield written(
-            Path(inner) / "changes.csv", handed.text_of_rows([row for rows in changed.values() for row in rows])
-        )
-
-
-def waits_of(office: Office) -> list[pending.Waiting]:
-    """What waits behind the last day, with its due days: it comes into a text by itself. It is kept when that day is
-    filed."""
-    path = office.next_folder / handed.WAITS
-    return pending.read_waits(str(path)) if path.exists() else []
-
-
-def write_waits(folder: Path, day: DayText, report: Report, waits: str) -> None:
-    """Puts what waits behind a day into the next/ that is made."""
-    files.write_synced(folder / handed.WAITS, waits_text(day, report, waits))
-
-
-def waits_text(day: DayText, report: Report, waits: str) -> bytes:
-    """What waits behind a day, with the due days by the calendar and the accounts after the day. `waits` is the pending
-    file of the day."""
-    waiting = next_day.waiting_after(day, report, pending.read_pending(waits), datetime.date.max, Notes())
-    head = head_after(day, report)
-    for own in waiting:
-        own.due, own.entered = due_day_after(head, own.instruction), None
-    made = pending.Made(day.head.date, report.next_record)
-    return pending.text_of(waiting, made).encode("utf-8", "surrogateescape")
+    return rules.day_of_fields(row.split(",") for row in heading)
 
 
 def asked_rules(day: DayText) -> list[rules.Logged]:

@@ -25,11 +25,12 @@ from registry_tools.calendars import dates
 from registry_tools.calendars.due_days import head_after
 from registry_tools.errors import FOUND, WordsFault
 from registry_tools.notes import LOOK
-from registry_tools.office import approvals, correcting, differing, files, folder, incoming, past, words
+from registry_tools.office import approvals, correcting, differing, files, folder, incoming, past, prepared, words
 from registry_tools.office.close import Settled
 from registry_tools.office.correcting import Correction
-from registry_tools.office.folder import Change, Office
+from registry_tools.office.folder import Office
 from registry_tools.office.journal import Event
+from registry_tools.office.whole_change import Change
 
 EXAMPLE = './day correct 2025-09-23 --without 61009 --why "entered twice" --second --office out/office'
 # What corrects what was done, if others know of it: as docs/RULES.md says it.
@@ -87,7 +88,7 @@ def run(said: argparse.Namespace) -> int:
             if approved is None:
                 return FOUND
             if approved:
-                files.remove_tree(change.folder / folder.NEW_DAYS)
+                files.remove_tree(change.folder / prepared.NEW_DAYS)
                 events, settled = made(correction, change, Path(work) / "kept", approved)
             correcting.keep(correction, change, events, settled[-1])
     folder.to_errors(f"settled by {settled[-1].engine}\nhead: {office.journal.head}")
@@ -98,8 +99,8 @@ def run(said: argparse.Namespace) -> int:
 def made(correction: Correction, change: Change, work: Path, approved: str) -> tuple[list[Event], list[Settled]]:
     """The days once more, in the folder of a change."""
     work.mkdir()
-    (change.folder / folder.OLD_DAYS).mkdir(exist_ok=True)
-    events, settled = correction.made(work, change.make(folder.NEW_DAYS), approved)
+    (change.folder / prepared.OLD_DAYS).mkdir(exist_ok=True)
+    events, settled = correction.made(work, change.make(prepared.NEW_DAYS), approved)
     correction.must_name_the_same(settled)
     return events, settled
 
@@ -107,7 +108,7 @@ def made(correction: Correction, change: Change, work: Path, approved: str) -> t
 def tell(correction: Correction, settled: list[Settled]) -> None:
     """Shows what each day becomes."""
     for before, after in zip(correction.before, settled):
-        lines = differing.differences(before, after)
+        lines = differing.all_differences(before, after)
         notes = [note for note in after.composed.notes if note.startswith(LOOK)]
         print(f"{before.date}:{'' if lines else ' as it was'}")
         print(streams.by_name("".join(f"  {line}\n" for line in (*lines, *notes))), end="")

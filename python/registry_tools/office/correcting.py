@@ -10,14 +10,17 @@ from dataclasses import dataclass, field, replace
 from pathlib import Path
 from typing import Iterator
 
+from registry_tools.calendars.due_days import NOT_DUE
 from registry_tools.errors import FileFault, WordsFault
 from registry_tools.office import (
-    close, composing, files, folder, hand_in, handed, incoming, journal, past, rebasing, undo,
+    close, composing, files, folder, hand_in, handed_files, incoming, journal, past, prepared, rebasing, undo,
+    whole_change,
 )  # fmt: skip
 from registry_tools.office.close import Settled
 from registry_tools.office.folder import Office
 from registry_tools.office.handed import CHANGES, DO, FIRST, Approved, HandedIn, Taken
 from registry_tools.office.journal import FILES, UNDONE, Event, Journal
+from registry_tools.office.waits import waits_of, write_waits
 from registry_tools.progress import progress
 from registry_tools.texts.report import LogRow, Report
 
@@ -76,6 +79,18 @@ class Correction:
             f"--without {record}: {first.date} has the records {first.first} to {first.next - 1}, and the days behind "
             f"it have them up to {last.next - 1}"
         )
+
+    def waited(self, record: int) -> str:
+        """That a record waited since an earlier day, and the words by which it is left out of that one."""
+        event, logged = self.logged(record)
+        row = logged.instruction.row
+        said = f"--without {record}: it waited since an earlier day, which it was handed in for: {row}"
+        for earlier in reversed([own for own in self.office.journal.filed() if own.date < event.date]):
+            _, report = past.read(past.pair_of(self.office, earlier), None)
+            waited = [own.record for own in report.log if own.name == NOT_DUE and own.instruction.row == row]
+            if waited:
+                return f"{said}; ./day correct {earlier.date} --without {waited[0]} leaves it out"
+        return said
 
     # The days once more.
 
@@ -136,7 +151,7 @@ class Correction:
             contents[CHANGES], changed = rebasing.rebased(contents[CHANGES], *reports)
             whole = "was handed in as a whole, and comes with what it holds by then"
             self.notes += [f"{event.date}: account {number} {whole}" for number in changed]
-        own = handed.again(place, office.journal.last_line, filed, contents, event.date)
+        own = handed_files.again(place, office.journal.last_line, filed, contents, event.date)
         own.login = self.office.login
         own.approved = [*approved_again(filed, own)]
         if event.date == self.date:
@@ -148,8 +163,7 @@ class Correction:
     def leave_out(self, record: int, place: int, filed: HandedIn, contents: dict[str, bytes]) -> None:
         """Takes an instruction out of what was handed in for a day, by its place there."""
         if place < 0:
-            row = do_row(self.logged(record)[1])
-            raise WordsFault(f"--without {record}: it waited since an earlier day, which it was handed in for: {row}")
+            raise WordsFault(self.waited(record))
         first = next((part for part in filed.parts if part.kind == FIRST), None)
         count = first.count if first else 0
         if first and place < count:
@@ -168,25 +182,20 @@ class Correction:
         """Ends the command if a reversal names a record that becomes another one."""
         old = {own.record: own for day in self.before for own in day.report.log}
         new = {own.record: own for day in settled for own in day.report.log}
-        rows = [do_row(own) for day in settled for own in day.report.log]
+        rows = [own.instruction.row for day in settled for own in day.report.log]
         rows += [row for item in self.office.handed_in().items(DO) for row in item.rows]
-        rows += [own.do_row() for own in composing.waits_of(self.office)]
+        rows += [own.instruction.row for own in waits_of(self.office)]
         for row in dict.fromkeys(rows):
             fields = row.split(",")
             if fields[4] != REVERSE or not (fields[6].isascii() and fields[6].isdigit()):
                 continue
             number = int(fields[6])
             was, becomes = old.get(number), new.get(number)
-            if (was and do_row(was)) != (becomes and do_row(becomes)):
+            if (was and was.instruction.row) != (becomes and becomes.instruction.row):
                 raise WordsFault(
                     f"record {number} would be another one, and {row} names it: leave that reversal out too, and hand "
                     "it in once more for a later day"
                 )
-
-
-def do_row(logged: LogRow) -> str:
-    """The row that a log row is of."""
-    return ",".join(["do", *logged.instruction.fields])
 
 
 def without_row(content: bytes, place: int) -> bytes:
@@ -205,12 +214,12 @@ def approved_again(filed: HandedIn, again: HandedIn) -> Iterator[Approved]:
         yield from (replace(own, place=part.start) for own in filed.approved if own.place == before.start)
 
 
-def keep(correction: Correction, change: folder.Change, events: list[Event], settled: Settled) -> None:
+def keep(correction: Correction, change: whole_change.Change, events: list[Event], settled: Settled) -> None:
     """Has the new days count, with what was handed in since: in one step."""
     since = correction.office.handed_in()
-    there = handed.begin(change.make(folder.NEW_NEXT), events[-1].line)
-    handed.put_left(there, since, since.parts)
-    waiting = change.folder / folder.NEW_DAYS / str(events[-1].date) / FILES["waiting"]
-    composing.write_waits(there.folder, settled.day, settled.report, str(waiting))
+    there = handed_files.begin(change.make(prepared.NEW_NEXT), events[-1].line)
+    handed_files.put_left(there, since, since.parts)
+    waiting = change.folder / prepared.NEW_DAYS / str(events[-1].date) / FILES["waiting"]
+    write_waits(there.folder, settled.day, settled.report, str(waiting))
     there.keep()
     change.keep(*events)

@@ -21,16 +21,16 @@ MOST_SHOWN = 30
 HELD, OF_RECORDS = 2, ("retired,",)
 
 
-def differences(before: PastDay, after: Settled) -> list[str]:
+def all_differences(before: PastDay, after: Settled) -> list[str]:
     """All that differs, in words; nothing, if a day becomes what it was."""
     parts = (
         of_instructions(before.report, after.report), of_accounts(before.report, after.report),
         of_compliance(before, after), of_waiting(before.report, after.report),
     )  # fmt: skip
-    return [line for part in parts for line in shown([*part])]
+    return [line for part in parts for line in first_lines([*part])]
 
 
-def shown(lines: list[str]) -> list[str]:
+def first_lines(lines: list[str]) -> list[str]:
     """The first lines, and how many more there are."""
     more = len(lines) - MOST_SHOWN
     return [*lines[:MOST_SHOWN], *([f"and {more} more"] if more > 0 else [])]
@@ -46,12 +46,12 @@ def of_instructions(before: Report, after: Report) -> Iterator[str]:
     for row in dict.fromkeys([*old, *new]):
         for was, becomes in itertools.zip_longest(old.get(row, []), new.get(row, [])):
             if was is None:
-                yield f"record {becomes.record}, new: {words_of(becomes)}: {outcome(becomes)}"
+                yield f"record {becomes.record}, new: {instruction_of(becomes)}: {outcome_or_wait(becomes)}"
             elif becomes is None:
-                yield f"record {was.record}, left out: {words_of(was)}: {outcome(was)}"
-            elif outcome(was) != outcome(becomes):
+                yield f"record {was.record}, left out: {instruction_of(was)}: {outcome_or_wait(was)}"
+            elif outcome_or_wait(was) != outcome_or_wait(becomes):
                 number = f"record {was.record}" + ("" if was.record == becomes.record else f", now {becomes.record}")
-                yield f"{number}: {words_of(was)}: {outcome(was)} before, {outcome(becomes)} now"
+                yield f"{number}: {instruction_of(was)}: {outcome_or_wait(was)} before, {outcome_or_wait(becomes)} now"
             else:
                 others += was.record != becomes.record
     if others:
@@ -66,12 +66,12 @@ def by_row(report: Report) -> dict[str, list[LogRow]]:
     return found
 
 
-def words_of(logged: LogRow) -> str:
+def instruction_of(logged: LogRow) -> str:
     """An instruction in words."""
     return instruction_in_words(logged.instruction)
 
 
-def outcome(logged: LogRow) -> str:
+def outcome_or_wait(logged: LogRow) -> str:
     """What came of an instruction."""
     if logged.is_done:
         return "done" if logged.figure is None else f"done, figure {grouped(logged.figure)}"

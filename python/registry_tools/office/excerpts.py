@@ -56,9 +56,7 @@ class Account:
         return [",".join(map(str, fields)), *self.users[self.dates[place]]]
 
 
-def excerpts(
-    office: Office, database: sqlite3.Connection, days: list[Event], numbers: list[int]
-) -> list[PastDay]:
+def excerpts(office: Office, database: sqlite3.Connection, days: list[Event], numbers: list[int]) -> list[PastDay]:
     """These days with these accounts, and with the log rows that name them."""
     log = log_of(office, database, days, numbers)
     asked = {*numbers, *(row.instruction.first for rows in log.values() for row in rows)}

@@ -7,7 +7,7 @@ from typing import Iterator
 
 from registry_tools.calendars.due_days import NOT_DUE
 from registry_tools.errors import FileFault
-from registry_tools.office import files, handed, past
+from registry_tools.office import files, handed_files, handed_journal, past
 from registry_tools.office.folder import Office
 from registry_tools.office.handed import CHANGES, HandedIn
 from registry_tools.office.journal import Event
@@ -72,7 +72,7 @@ def accounts_had(office: Office) -> dict[tuple[str, ...], str]:
     found = {}
     for event in office.journal.filed():
         path = past.as_filed(office, event, CHANGES)
-        for rows in handed.items_of_text(path, CHANGES, files.bytes_in(path)):
+        for rows in handed_files.items_of_text(path, CHANGES, files.bytes_in(path)):
             found[tuple(rows)] = str(event.date)
     return found
 
@@ -88,5 +88,4 @@ def file_had(office: Office, sum_of_file: str) -> str:
 
 def handed_of(office: Office, event: Event) -> HandedIn:
     """What was handed in for a settled day."""
-    path = past.as_filed(office, event, "handed")
-    return handed.from_text(path.parent, path, files.bytes_in(path))
+    return handed_journal.read_journal(past.as_filed(office, event, "handed"))

@@ -19,12 +19,14 @@ from typing import NamedTuple, Sequence
 
 from registry_tools.errors import FileFault, WordsFault
 from registry_tools.office import (
-    approvals, composing, files, folder, had, handed, incoming, labels, people, trial, words,
+    approvals, awaited, composing, files, folder, had, handed, handed_files, incoming, labels, people, trial,
+    words,
 )  # fmt: skip
 from registry_tools.office.composing import NextDay
 from registry_tools.office.folder import Office
 from registry_tools.office.handed import CHANGES, DO, HandedIn, Part, places
 from registry_tools.office.incoming import Forms, Incoming
+from registry_tools.office.waits import waits_of
 
 EXAMPLE = "./day hand-in examples/week/tuesday-do.csv examples/week/tuesday-work.csv --office out/office"
 
@@ -55,7 +57,7 @@ def run(said: argparse.Namespace) -> int:
         folder.tell_left("handed in", left)
         for part in added.parts:
             print(f"handed in: {part.name}: {words_of_count(part)}, {places(part.start, part.end)}")
-        approvals.tell_new(office, added.parts)
+        awaited.tell_new(office, added.parts)
         print("".join(f"again: {line}\n" for line in added.again), end="")
         return trial.tell(added.looked, added.next_day, added.places())
 
@@ -165,7 +167,7 @@ def add(office: Office, here: Here, own: Incoming, who: str) -> Part:
         people.must_be_allowed(office.people, office.login, approvals.COMMAND_OF[own.kind])
         refuse_accounts(here, own)
         refuse_blocks(office, here, own)
-    part = handed.put(here.handed_in, own.kind, own.content, own.count, own.name, who, own.originals)
+    part = handed_files.put(here.handed_in, own.kind, own.content, own.count, own.name, who, own.originals)
     here.named.append((part, own.path))
     return part
 
@@ -204,7 +206,7 @@ def refuse_instructions(office: Office, here: Here, own: Incoming) -> None:
         row: Before(f"one that {earlier}: {row}", None, earlier.may_come_again)
         for row, earlier in had.instructions_had(office, rows).items()
     }
-    for row in rows & {waits.do_row() for waits in composing.waits_of(office)}:
+    for row in rows & {waits.instruction.row for waits in waits_of(office)}:
         there[row] = Before(f"one that waits for its due day, and comes by itself: {row}")
     for item in here.handed_in.items(handed.FIRST, DO):
         row = item.rows[0]
@@ -223,7 +225,7 @@ def refuse_instructions(office: Office, here: Here, own: Incoming) -> None:
 def refuse_blocks(office: Office, here: Here, own: Incoming) -> None:
     """Ends the command at an account that a settled day has had with the same rows: since then it may have changed."""
     days = had.accounts_had(office)
-    for line, rows in zip(own.begun, handed.items_of_text(Path(own.path), CHANGES, own.content)):
+    for line, rows in zip(own.begun, handed_files.items_of_text(Path(own.path), CHANGES, own.content)):
         date = days.get(tuple(rows))
         if date:
             before = Before(f"the rows that {date} has had of this account")

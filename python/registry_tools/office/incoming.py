@@ -6,12 +6,16 @@ import os
 from collections.abc import Sequence
 from dataclasses import dataclass
 
-from registry_tools.errors import FileFault
+from registry_tools import tables
+from registry_tools.errors import FileFault, shown
 from registry_tools.office import handed
-from registry_tools.office.handed import CHANGES, DO
+from registry_tools.office.handed import CHANGES, DO, WORK, begins_item
 from registry_tools.office.sources import MAPPING, TABLE, Original
+from registry_tools.second import faults
 from registry_tools.sheets import columns, importing, sheets
 from registry_tools.sheets.mapping import Mapping
+from registry_tools.sheets.table import OTHER_HEADINGS
+from registry_tools.texts.day_text import read_blocks, read_rows_of
 from registry_tools.texts.rows import Rows, bytes_of, packed_bytes_of, rows_of, rows_of_text
 
 UTF_16 = (b"\xff\xfe", b"\xfe\xff")
@@ -19,6 +23,10 @@ TAGS = ("do", "work", "account")
 COLUMNS = {*columns.INSTRUCTION_COLUMNS, *columns.ACCOUNT_COLUMNS}
 # The first row of a table is not longer.
 FIRST_BYTES = 65_536
+# What is tried by a reader of its own has no record number or period yet: all are allowed here, and tried in the day.
+ANY_YEARS = [*range(tables.MOST_PERIODS)]
+EMPTY_TABLE = f"./day form makes an empty table, and {OTHER_HEADINGS}"
+EXPECTED = f"rows do, work or account in the first row: what is to be handed in; or the names of columns: {EMPTY_TABLE}"
 
 
 @dataclass(frozen=True)
@@ -51,7 +59,7 @@ class Incoming:
     def begun(self) -> list[int]:
         """The lines on which something begins."""
         rows = self.rows
-        return [rows.line(place) for place, row in enumerate(rows.rows) if handed.begins_item(self.kind, row)]
+        return [rows.line(place) for place, row in enumerate(rows.rows) if begins_item(self.kind, row)]
 
 
 class TableFault(FileFault):
@@ -85,8 +93,8 @@ def read(path: str, forms: Forms = Forms()) -> Incoming:
     if forms.mapping.path or is_table(content):
         return read_table(path, content, forms)
     source = rows_of(path)
-    kind = handed.kind_of(source)
-    count = handed.checked_count(path, kind)
+    kind = kind_of(source)
+    count = checked_count(path, kind)
     # (checking takes the row `end` away)
     return Incoming(path, kind, rows_of(path), count, bytes_of(path))
 
@@ -104,7 +112,7 @@ def read_table(path: str, content: bytes, forms: Forms) -> Incoming:
     if forms.mapping.path:
         own = forms.mapping.path
         originals.append(Original(MAPPING, ".ini", packed_bytes_of(own), os.path.basename(own)))
-    handed.checked_count(Rows(path, [*rows.rows], rows.lines), kind)
+    checked_count(Rows(path, [*rows.rows], rows.lines), kind)
     return Incoming(path, kind, rows, len(made.made), handed.text_of_rows(made.rows), originals)
 
 
@@ -126,3 +134,22 @@ def is_table(content: bytes) -> bool:
 def ending_of(content: bytes) -> str:
     """The ending of a table's name, by what it is: names may say anything."""
     return sheets.ending_of(content) if sheets.is_workbook(content) else ".csv"
+
+
+def kind_of(source: Rows) -> str:
+    """What a file has to hand in, by its first row."""
+    tag = source.rows[0].partition(",")[0] if source.rows else ""
+    for kind in (DO, CHANGES, WORK):
+        if begins_item(kind, f"{tag},"):
+            return kind
+    raise source.fault(0, "tag", shown(tag), EXPECTED)
+
+
+def checked_count(path: str | Rows, kind: str) -> int:
+    """How many items a file has, each of which has no fault. Ends the command at the first fault."""
+    if kind == DO:
+        return len(read_rows_of("do", path, faults.Reading(last="do")))
+    if kind == WORK:
+        return len(read_rows_of("work", path, faults.Reading(last="lags")))
+    reading = faults.Reading(last="work", version=2, next_record=tables.MOST_RECORD + 1, last_years=ANY_YEARS)
+    return len(read_blocks(path, reading))

@@ -192,16 +192,16 @@ def add_all(database: sqlite3.Connection, office: Office, begin: int) -> None:
 
 def add(database: sqlite3.Connection, office: Office, event: Event, past_day: PastDay) -> None:
     """Puts a filed day into the index."""
-    daybase.add_day(database, past_day, sums_of(past_day))
+    daybase.add_day(database, past_day, sums_of_pair(past_day))
     database.execute("INSERT INTO filed VALUES (?, ?, ?)", (str(event.date), event.line, looks_of(office, event)))
 
 
-def sums_of(past_day: PastDay) -> tuple[str, str]:
+def sums_of_pair(past_day: PastDay) -> tuple[str, str]:
     """The sums of a pair: a filed text is its rows, each with a line end."""
-    return sum_of(past_day.day), sum_of(past_day.report)
+    return sum_of_text(past_day.day), sum_of_text(past_day.report)
 
 
-def sum_of(text: DayText | Report) -> str:
+def sum_of_text(text: DayText | Report) -> str:
     """The sum of a text, as its file would have it."""
     return files.sum_of("\n".join([*text.source.rows, ""]).encode("utf-8", "surrogateescape"))
 
@@ -246,10 +246,10 @@ def there(office: Office) -> Iterator[sqlite3.Connection | None]:
         yield found
 
 
-def differences(database: sqlite3.Connection, office: Office, past_day: PastDay) -> Iterator[FileFault]:
+def differences_from_files(database: sqlite3.Connection, office: Office, past_day: PastDay) -> Iterator[FileFault]:
     """In which tables the index has other rows of a day than its files."""
     path = path_of(office)
-    expected = {table: [*rows] for table, rows in daybase.rows_of_day(past_day, sums_of(past_day))}
+    expected = {table: [*rows] for table, rows in daybase.rows_of_day(past_day, sums_of_pair(past_day))}
     for table, there in daybase.rows_there(database, past_day.date):
         own, wanted = {*there}, {*expected[table]}
         strange, lacking = sorted(own - wanted, key=repr), sorted(wanted - own, key=repr)

@@ -11,9 +11,9 @@ from pathlib import Path
 
 from registry_tools import streams
 from registry_tools.errors import FileFault, WordsFault
-from registry_tools.office import files, folder, handed, journal, lock, people, words
-from registry_tools.office.folder import Settings
+from registry_tools.office import files, folder, handed, handed_files, journal, lock, people, whole_change, words
 from registry_tools.office.layout import DAYS, JOURNAL, NEXT, SETTINGS
+from registry_tools.office.settings import Settings
 from registry_tools.output import NewFolder
 from registry_tools.texts.day_text import DayText, day_of
 from registry_tools.texts.rows import bytes_of, rows_of_text
@@ -67,11 +67,11 @@ def make(path: Path, said: argparse.Namespace, who: str, first: DayText, content
         made.write(SETTINGS, settings.text())
         made.write(JOURNAL, journal.empty_text())
         made.write(lock.NAME, "")
-        there = handed.begin(made.beside / NEXT, journal.BEGINNING)
+        there = handed_files.begin(made.beside / NEXT, journal.BEGINNING)
         there.login = people.system_login()
-        handed.put(there, handed.FIRST, content, len(first.instructions), os.path.basename(said.first), who)
+        handed_files.put(there, handed.FIRST, content, len(first.instructions), os.path.basename(said.first), who)
         there.keep()
-        with folder.telling(path):
+        with whole_change.telling(path):
             files.sync_tree(made.beside)
     try:
         files.sync_folder(path.parent)
@@ -87,13 +87,14 @@ def change_first(path: Path, said: argparse.Namespace, who: str, first: DayText,
         if said.program or said.statements or said.pages:
             raise WordsFault(f"{path} is there: change its {SETTINGS} with an editor")
         old = office.handed_in()
-        there = handed.begin(office.next_folder, old.base)
+        there = handed_files.begin(office.next_folder, old.base)
         there.login = office.login
         # (the file gets a name that the old text does not have: it counts only when the journal says so)
         if any(True for _ in old.items(*(kind for kind in handed.KINDS if kind != handed.FIRST))):
             raise WordsFault("take back first what was handed in: ./day status shows it")
         there.parts = [*old.parts]
-        part = handed.put(there, handed.FIRST, content, len(first.instructions), os.path.basename(said.first), who)
+        count, name = len(first.instructions), os.path.basename(said.first)
+        part = handed_files.put(there, handed.FIRST, content, count, name, who)
         part.start, there.parts = 1, [part]
         folder.tell_left("the first text is another one", there.make_count())
         there.remove_unnamed()

@@ -22,14 +22,15 @@ from registry_tools import showing, tables
 from registry_tools.errors import FileFault, WordsFault, shown
 from registry_tools.notes import LOOK
 from registry_tools.office import composing, files, folder, journal, labels, words
-from registry_tools.office.folder import Change, Office
+from registry_tools.office.folder import Office
 from registry_tools.office.journal import LABELLED, Event
 from registry_tools.office.labels import ACCOUNT, COLUMNS, HOLDER, KINDS, USER, Label, Labels
 from registry_tools.office.layout import LABELS
+from registry_tools.office.whole_change import Change
 from registry_tools.sheets import importing, mapping as mappings, sheets
 from registry_tools.sheets.mapping import Mapping
 from registry_tools.sheets.table import Table
-from registry_tools.texts.accounts import Block
+from registry_tools.texts.in_words import as_looked_up
 from registry_tools.texts.rows import packed_bytes_of, rows_of, rows_of_text
 
 EXAMPLE = './day label holder 5501 "Kalkwerk Nord" --why "a letter" --office out/office'
@@ -237,7 +238,7 @@ def doubts_of(office: Office, new: list[Label], now: Labels) -> Iterator[str]:
     for own in strange[:MOST_TOLD]:
         yield f"{LOOK}: there is no {own.kind} {own.number} yet"
     for own in new[:MOST_TOLD]:
-        same = [each for each in now.of_words(own.name, own.kind) if labels.plain(each.name) == labels.plain(own.name)]
+        same = [each for each in now.of_words(own.name, own.kind) if as_looked_up(each.name) == as_looked_up(own.name)]
         for other in (each for each in same if own.name and each.number != own.number):
             yield f"{LOOK}: {own.kind} {other.number} has the same name"
 
@@ -254,9 +255,4 @@ def numbers_of(office: Office) -> dict[str, set[int]]:
     users = {int(row.split(",")[1]) for row in heading if row.startswith("admin,")}
     for block in book.values():
         users |= {int(row.split(",")[1]) for row in block.list_rows if row.startswith("user,")}
-    return {ACCOUNT: {*book}, HOLDER: {*map(holder_of, book.values())}, USER: users}
-
-
-def holder_of(block: Block) -> int:
-    """The holder of an account."""
-    return int(block.rows[0].split(",")[3])
+    return {ACCOUNT: {*book}, HOLDER: {block.holder for block in book.values()}, USER: users}

@@ -17,6 +17,7 @@ from typing import NamedTuple
 from registry_tools.errors import WordsFault, escaped, shown
 from registry_tools.office.journal import row_of
 from registry_tools.office.layout import LABELS
+from registry_tools.texts.in_words import as_looked_up
 from registry_tools.texts.rows import Rows, rows_of
 
 USER, HOLDER, ACCOUNT = KINDS = ("user", "holder", "account")
@@ -86,9 +87,9 @@ class Labels:
         """What is called so: what has exactly this name, or else what has the word in its name, whatever the
         capitals."""
         own = [label for label in self.named.values() if label.kind in (kinds or KINDS)]
-        sought = plain(word)
-        return [label for label in own if plain(label.name) == sought] or [
-            label for label in own if sought and sought in plain(label.name)
+        sought = as_looked_up(word)
+        return [label for label in own if as_looked_up(label.name) == sought] or [
+            label for label in own if sought and sought in as_looked_up(label.name)
         ]
 
     def one(self, word: str, *kinds: str) -> Label:
@@ -101,11 +102,6 @@ class Labels:
             several = "; ".join(map(str, found))
             raise WordsFault(f"{shown(word)} may be {several}: say more of the name, or the number")
         return found[0]
-
-
-def plain(name: str) -> str:
-    """A name as it is looked up: without capitals, and each blank in it a single one."""
-    return " ".join(name.split()).casefold()
 
 
 def in_sight(name: str) -> str:

@@ -24,10 +24,12 @@ from pathlib import Path
 from registry_tools.calendars import dates
 from registry_tools.errors import FOUND, FileFault, WordsFault
 from registry_tools.office import composing, files, folder, handed, settling, words
-from registry_tools.office.composing import MERGED, NextDay, written
+from registry_tools.office.composing import NextDay
 from registry_tools.office.folder import Office
 from registry_tools.office.handed import CHANGES, DO, WORK
 from registry_tools.office.journal import CHANGING, FILES, Event
+from registry_tools.office.merged import MERGED, written
+from registry_tools.office.waits import waits_text
 from registry_tools.texts.day_text import DayText, day_of
 from registry_tools.texts.pairs import read_pair
 from registry_tools.texts.report import Report
@@ -57,6 +59,8 @@ def run(said: argparse.Namespace) -> int:
         mending = Mending(office, event)
         mending.mend()
         place = office.day_folder(date)
+        for key in FILES:
+            files.remove_beside(place / FILES[key])
         if mending.made and not place.is_dir():
             files.make_folder(place)
         for key in mending.made:
@@ -193,7 +197,7 @@ class Mending:
         if last is None or any(self.office.changed_files(last)):
             return None
         day, report = read_pair(str(self.office.file(last, DAY)), str(self.office.file(last, REPORT)))
-        waits = composing.waits_text(day, report, str(self.office.file(last, WAITING)))
+        waits = waits_text(day, report, str(self.office.file(last, WAITING)))
         return day, report, waits.count(b"\n")
 
     def event_before(self) -> Event | None:

@@ -3,7 +3,7 @@ import argparse
 import re
 from collections.abc import Mapping, Sequence
 
-from registry_tools import showing
+from registry_tools import showing, tables
 from registry_tools.errors import WordsFault, shown
 from registry_tools.office import labels, past
 from registry_tools.office.labels import ACCOUNT, HOLDER, USER, Label, Labels
@@ -32,6 +32,8 @@ def number_of(option: str, word: str | None, names: Labels, kind: str = ACCOUNT)
     if word is None:
         return None
     if NUMBER.fullmatch(word):
+        if int(word[:12]) > tables.MOST_NUMBER:
+            raise WordsFault(f"{option}: found {shown(word)}; expected a number up to {tables.MOST_NUMBER}")
         return int(word)
     if not names.named:
         raise WordsFault(f"{option}: found {shown(word)}; expected a number: there are no names")

@@ -23,7 +23,7 @@ from typing import Iterator
 from registry_tools import tables
 from registry_tools.calendars.dates import date_of
 from registry_tools.calendars.due_days import NOT_DUE, due_day_after, is_due
-from registry_tools.calendars.working_days import in_words, look_at_calendar, next_calendar
+from registry_tools.calendars.working_days import days_in_words, look_at_calendar, next_calendar
 from registry_tools.errors import FOUND, FileFault, RowFault, WordsFault
 from registry_tools.notes import BY_HAND, ROW, Notes
 from registry_tools.options import add_to
@@ -133,7 +133,7 @@ def waiting_after(
         notes.warn(*found.warnings)
         notes.warn(
             *(
-                f"{lost.place}: this was entered into {day.path}, which does not have it: {lost.do_row()}"
+                f"{lost.place}: this was entered into {day.path}, which does not have it: {lost.instruction.row}"
                 for lost in found.lost
             )
         )
@@ -152,7 +152,7 @@ def enter_due(head: rules.Day, waiting: list[pending.Waiting], notes: Notes) -> 
             continue
         waits.due = due_day_after(head, waits.instruction)
         if waits.due is None:
-            notes.warn(f"the calendar has no due day for this, which goes on waiting: {waits.do_row()}")
+            notes.warn(f"the calendar has no due day for this, which goes on waiting: {waits.instruction.row}")
     return [waits for waits in waiting if waits.entered]
 
 
@@ -166,8 +166,8 @@ def new_instructions(path: str | None, report: Report, count: int) -> Rows:
 def tell_refused(report: Report, notes: Notes) -> None:
     """Tells what the day refused, and nobody enters again."""
     for logged in (own for own in report.log if own.name == OUTSIDE):
-        notes.warn(f"{report.path}:{logged.line}: refused as {OUTSIDE}. Add working days and enter it again: "
-                   f"do,{','.join(logged.instruction.fields)}")  # fmt: skip
+        again = f"Add working days and enter it again: {logged.instruction.row}"
+        notes.warn(f"{report.path}:{logged.line}: refused as {OUTSIDE}. {again}")
     others = sum(not logged.is_done and logged.name not in (NOT_DUE, OUTSIDE) for logged in report.log)
     notes.add(
         f"refused by {report.path} for other reasons: {others}{' (./day log --refused shows each)' if others else ''}"
@@ -214,7 +214,7 @@ def about_date(before: DayText, head: rules.Day) -> Iterator[str]:
     yield from about_weekday(head)
     between = [skipped for skipped in head.working_days if before.head.date < skipped < head.date]
     if between:
-        yield f"working days that have no text: {in_words(between)}"
+        yield f"working days that have no text: {days_in_words(between)}"
 
 
 def next_head(
@@ -256,7 +256,7 @@ def run(words: argparse.Namespace) -> int:
     rows = [*heading_of(day, head.date, report.next_record, head.working_days)]
     for block in book.values():
         rows += block.rows
-    rows += [*(own.do_row() for own in entered), *new.rows, "end", ""]
+    rows += [*(own.instruction.row for own in entered), *new.rows, "end", ""]
     made = pending.Made(head.date, report.next_record)
     others = [NewFile(path, pending.text_of(waiting, made))] if path else []
     write_answer("\n".join(rows), words.to, *others)

@@ -74,9 +74,7 @@ class PastDay:
 
 def add_words(parser: argparse.ArgumentParser) -> None:
     """Tells a parser the words of the command."""
-    parser.add_argument(
-        "--office", metavar="FOLDER", help=folder.WHERE
-    )
+    parser.add_argument("--office", metavar="FOLDER", help=folder.WHERE)
     parser.add_argument(
         "--pairs",
         metavar="DAY REPORT",

@@ -74,6 +74,12 @@ class People:
         """Who may approve what this login asks for; nothing, if office.ini names nobody."""
         return [str(own) for own in self.named.values() if own.may(command) and own.login != person_of(login)]
 
+    def without_second(self) -> list[str]:
+        """The commands that wait for another login, although office.ini names fewer than two people who may give
+        them."""
+        may = {own: sum(person.may(own) for person in self.named.values()) for own in self.four_eyes}
+        return [own for own, count in may.items() if self.named and count < 2]
+
     def in_words(self, login: str) -> str:
         """A login with the name of its person, if office.ini names one."""
         person = self.named.get(person_of(login))

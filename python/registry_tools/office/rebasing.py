@@ -3,7 +3,7 @@ is laid over the account as it stands now. So it has what it holds by then, and 
 """
 from pathlib import Path
 
-from registry_tools.office import handed
+from registry_tools.office import handed, handed_files
 from registry_tools.office.changes.edits import place_of_row
 from registry_tools.office.handed import CHANGES
 from registry_tools.texts.report import Report
@@ -14,7 +14,7 @@ def rebased(content: bytes, old: Report, new: Report) -> tuple[bytes, list[int]]
     whose blocks are other ones now."""
     rows: list[str] = []
     changed = []
-    for block in handed.items_of_text(Path("changes.csv"), CHANGES, content):
+    for block in handed_files.items_of_text(Path("changes.csv"), CHANGES, content):
         number = int(block[0].split(",")[1])
         now = block
         if number in old.book and number in new.book:

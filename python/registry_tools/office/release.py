@@ -31,7 +31,7 @@ def run(said: argparse.Namespace) -> int:
     """Runs the command, and answers the exit status."""
     who, why = words.one_line("--who", said.who), words.one_line("--why", said.why)
     with folder.locked(said.office, "release", who, folder.to_errors, said.seen, said.whom) as office:
-        day = day_of(office, said.day)
+        day = day_to_release(office, said.day)
         doubt = doubt_of(day)
         if doubt and not said.yes:
             print(f"{LOOK}: {day.date} {doubt}\n{day.date} is not released, without --yes")
@@ -79,7 +79,7 @@ def doubt_of(day: Event) -> str:
     return "" if engine.is_proved else f"was settled by {engine}"
 
 
-def day_of(office: Office, word: str | None) -> Event:
+def day_to_release(office: Office, word: str | None) -> Event:
     """The day that the words name, which was not released yet."""
     last = office.last()
     if last is None:

@@ -12,13 +12,14 @@ import sys
 from typing import Iterator
 
 from registry_tools import showing, streams, tables
-from registry_tools.calendars.working_days import in_words
+from registry_tools.calendars.working_days import days_in_words
 from registry_tools.errors import FOUND, FileFault
 from registry_tools.notes import LOOK, counted
-from registry_tools.office import approvals, composing, folder, labels, lock, naming, settling, words
+from registry_tools.office import approvals, awaited, folder, labels, lock, naming, settling, words
 from registry_tools.office.folder import Office
 from registry_tools.office.handed import KINDS, HandedIn, Item
 from registry_tools.office.labels import Labels
+from registry_tools.office.waits import waits_of
 from registry_tools.output import write_answer
 from registry_tools.questions.due import missed_days, next_dates
 from registry_tools.showing import Cell
@@ -61,7 +62,8 @@ def run(said: argparse.Namespace) -> int:
     last = office.last()
     faults = [*office.changed_files(last), *office.changed_tables(last)] if last else []
     if showing.is_for_programs(said):
-        write_answer(showing.for_programs(said, COLUMNS.names, [*rows_of(office, handed_in, faults)]), said.to)
+        rows = [*rows_for_programs(office, handed_in, faults)]
+        write_answer(showing.for_programs(said, COLUMNS.names, rows), said.to)
         return FOUND if faults else 0
     names = labels.of_folder(office.path)
     lines = [*last_lines(office), *waiting_lines(office, names), *handed_lines(handed_in, names)]
@@ -73,7 +75,7 @@ def run(said: argparse.Namespace) -> int:
     return FOUND if faults else 0
 
 
-def rows_of(office: Office, handed_in: HandedIn, faults: list[FileFault]) -> Iterator[list[Cell]]:
+def rows_for_programs(office: Office, handed_in: HandedIn, faults: list[FileFault]) -> Iterator[list[Cell]]:
     """What programs are told: a row for each thing, with nothing in the columns that it does not have."""
     last = office.last()
     if last:
@@ -84,10 +86,10 @@ def rows_of(office: Office, handed_in: HandedIn, faults: list[FileFault]) -> Ite
         yield [HEAD, str(last.date), None, None, None, None, office.journal.last_line]
         for date in missed_days(office):
             yield [MISSED, str(date), None, None, None, None, None]
-    for waits in composing.waits_of(office):
-        yield [WAITS, str(waits.due) if waits.due else None, waits.record, None, None, None, waits.do_row()]
+    for waits in waits_of(office):
+        yield [WAITS, str(waits.due) if waits.due else None, waits.record, None, None, None, waits.instruction.row]
     for item in handed_in.items(*KINDS):
-        day = str(item.part.day) if item.part.day else None
+        day = str(item.part.earliest) if item.part.earliest else None
         yield [HANDED, day, None, item.place, item.part.who, item.part.at, "\n".join(item.rows)]
     yield from ([TAKEN, None, None, taking.place, taking.who, taking.at, taking.why] for taking in handed_in.taken)
     for _, what in second_lines(office, handed_in):
@@ -107,7 +109,7 @@ def last_lines(office: Office) -> Iterator[tuple[str, str]]:
     not_released = streams.by_name(f"not released: ./day undo {last.date} takes it back")
     released = "released" if office.journal.is_released() else not_released
     approved = f", approved by {office.people.in_words(last.approved)}" if last.approved else ""
-    who = approvals.in_words(office, last.who, last.login)
+    who = awaited.who_did(office, last.who, last.login)
     yield "last day", f"{last.date}, filed by {who} at {last.at}{approved}, {released}"
     yield "settled by", str(settling.engine_named(last.engine) or NOBODY_KNOWS)
     yield "next record", str(last.next)
@@ -116,17 +118,17 @@ def last_lines(office: Office) -> Iterator[tuple[str, str]]:
     passed = missed_days(office)
     yield "since then", counted((today - last.date).days, "day", "days") if today > last.date else "no day"
     if passed:
-        yield "working days without a settlement", in_words(passed)
+        yield "working days without a settlement", days_in_words(passed)
     for date, what in next_dates(office, MOST_SOON):
         yield "next", f"{date}: {what}"
 
 
 def waiting_lines(office: Office, names: Labels) -> Iterator[tuple[str, str]]:
     """What waits, by due day."""
-    waiting = sorted(composing.waits_of(office), key=lambda own: (own.due is None, str(own.due)))
+    waiting = sorted(waits_of(office), key=lambda own: (own.due is None, str(own.due)))
     yield "waiting", str(len(waiting)) if waiting else "nothing"
     for waits in waiting[:MOST_SHOWN]:
-        row = waits.do_row()
+        row = waits.instruction.row
         yield "", f"{waits.due or 'no due day in the calendar'}  {row}{named_in(row, names)}"
     yield from more(len(waiting))
 
@@ -136,7 +138,7 @@ def handed_lines(handed_in: HandedIn, names: Labels) -> Iterator[tuple[str, str]
     items = [*handed_in.items(*KINDS)]
     yield "handed in", str(len(items)) if items else "nothing"
     for item in items[:MOST_SHOWN]:
-        yield "", f"{item.place:>4}  {shown(item)}{named_in(item.rows[0], names)}"
+        yield "", f"{item.place:>4}  {item_line(item)}{named_in(item.rows[0], names)}"
     yield from more(len(items))
     for taken in handed_in.taken[:MOST_SHOWN]:
         yield "", f"{taken.place:>4}  taken back by {taken.who} at {taken.at}: {taken.why}"
@@ -144,11 +146,13 @@ def handed_lines(handed_in: HandedIn, names: Labels) -> Iterator[tuple[str, str]
 
 
 def second_lines(office: Office, handed_in: HandedIn) -> Iterator[tuple[str, str]]:
-    """What waits for another login, and what approves nothing."""
-    for line in approvals.told(office, handed_in):
+    """What waits for another login, what approves nothing, and what nobody could approve."""
+    for line in awaited.told(office, handed_in):
         yield SECOND, line
     for fault in approvals.all_approvals(office).faults:
         yield SECOND, f"{LOOK}: {fault}"
+    for command in office.people.without_second():
+        yield SECOND, f"{LOOK}: {command} waits for a second one, and office.ini names fewer than two who may give it"
 
 
 def more(count: int) -> Iterator[tuple[str, str]]:
@@ -157,10 +161,10 @@ def more(count: int) -> Iterator[tuple[str, str]]:
         yield "", f"and {count - MOST_SHOWN} more"
 
 
-def shown(item: Item) -> str:
+def item_line(item: Item) -> str:
     """An item that was handed in, as a line."""
     rest = f" and {len(item.rows) - 1} rows" if len(item.rows) > 1 else ""
-    day = f", not before {item.part.day}" if item.part.day else ""
+    day = f", not before {item.part.earliest}" if item.part.earliest else ""
     return f"{item.rows[0]}{rest} ({item.part.name}, {item.part.who}{day})"
 
 

@@ -80,12 +80,13 @@ def look(next_day: NextDay, day: DayText, names: Labels = Labels()) -> list[Look
     places = [*(None for _ in next_day.entered), *(item.place for item in next_day.new)]
     looked = []
     for place, instruction, logged in zip(places, day.instructions, composing.asked_rules(day)):
-        own, said = ",".join(["do", *instruction.fields]), in_words.instruction_in_words(instruction, names.account)
-        looked.append(Looked(place, own, said, outcome_of(logged, instruction), str(logged.due or ""), logged.line))
+        own, said = instruction.row, in_words.instruction_in_words(instruction, names.account)
+        outcome = outcome_by_rules(logged, instruction)
+        looked.append(Looked(place, own, said, outcome, str(logged.due or ""), logged.line))
     return looked
 
 
-def outcome_of(logged: rules.Logged, i: rules.Instruction) -> str:
+def outcome_by_rules(logged: rules.Logged, i: rules.Instruction) -> str:
     """`done`, or the name of the check."""
     behind = logged.line.split(",")[3 + len(i.fields) :]
     return "done" if behind[0] == "done" else behind[2]
@@ -97,7 +98,7 @@ def table_of(looked: list[Looked]) -> list[str]:
         ["*" if tried.is_new else "", WAITED if tried.place is None else str(tried.place), tried.words, tried.said()]
         for tried in looked
     ]
-    return in_words.table([*COLUMNS], rows, {"place"})
+    return in_words.table_lines([*COLUMNS], rows, {"place"})
 
 
 def tell(looked: list[Looked], next_day: NextDay, places: set[int] | None = None) -> int:

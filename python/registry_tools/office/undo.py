@@ -12,10 +12,14 @@ import datetime
 
 from registry_tools.calendars import dates
 from registry_tools.errors import FOUND, WordsFault
-from registry_tools.office import approvals, composing, files, folder, handed, journal, past, words
-from registry_tools.office.folder import Change, Office
+from registry_tools.office import (
+    approvals, files, folder, handed, handed_files, handed_journal, journal, merged, past, prepared, words,
+)  # fmt: skip
+from registry_tools.office.folder import Office
 from registry_tools.office.handed import FIRST, HandedIn, places
 from registry_tools.office.journal import UNDONE, Event
+from registry_tools.office.waits import write_waits
+from registry_tools.office.whole_change import Change
 from registry_tools.texts.day_text import day_of
 from registry_tools.texts.pairs import read_pair
 from registry_tools.texts.rows import rows_of
@@ -49,9 +53,9 @@ def run(said: argparse.Namespace) -> int:
             UNDONE, journal.now(), who, last.date, last.first, last.next, last.sums, why, office.journal.last_line
         ), approved)  # fmt: skip
         with Change(office) as change:
-            there = handed.again(change.make(folder.NEW_NEXT), event.line, *filed_parts(office, last), date)
+            there = handed_files.again(change.make(prepared.NEW_NEXT), event.line, *filed_parts(office, last), date)
             end = there.end
-            handed.put_left(there, since, since.parts)
+            handed_files.put_left(there, since, since.parts)
             write_waits_before(office, there)
             there.keep()
             change.keep(event)
@@ -93,9 +97,8 @@ def date_again(word: str | None, office: Office, last: Event) -> datetime.date:
 
 def filed_parts(office: Office, last: Event) -> tuple[HandedIn, dict[str, bytes]]:
     """What the day was made of: who handed in what, and the contents by kind."""
-    path = office.file(last, "handed")
-    filed = handed.from_text(path.parent, path, files.bytes_in(path))
-    contents = {kind: files.bytes_in(office.file(last, kind)) for kind in composing.MERGED}
+    filed = handed_journal.read_journal(office.file(last, "handed"))
+    contents = {kind: files.bytes_in(office.file(last, kind)) for kind in merged.MERGED}
     first = next((part for part in filed.parts if part.kind == FIRST), None)
     if first:
         contents[FIRST] = first_text(office, last, first.count)
@@ -115,4 +118,4 @@ def write_waits_before(office: Office, there: HandedIn) -> None:
         before = filed[-2]
         day_path, report_path = (str(past.as_filed(office, before, key)) for key in past.PAIR)
         day, report = read_pair(day_path, report_path)
-        composing.write_waits(there.folder, day, report, str(past.as_filed(office, before, "waiting")))
+        write_waits(there.folder, day, report, str(past.as_filed(office, before, "waiting")))

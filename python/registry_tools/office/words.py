@@ -7,9 +7,7 @@ from registry_tools.office.folder import WHERE, user_name
 
 def add_office(parser: argparse.ArgumentParser) -> None:
     """The option that names the folder."""
-    parser.add_argument(
-        "--office", metavar="FOLDER", help=WHERE
-    )
+    parser.add_argument("--office", metavar="FOLDER", help=WHERE)
 
 
 def add_who(parser: argparse.ArgumentParser) -> None:

@@ -4,7 +4,7 @@ from typing import Iterator, Sequence
 from registry_tools.errors import WordsFault
 from registry_tools.office.labels import ACCOUNT
 from registry_tools.pages import index
-from registry_tools.pages.html import Cells, Markup, Table, link, paragraph, table, tag, visible
+from registry_tools.pages.html import Cells, Markup, Table, link, paragraph, table, tag, words_in_cell
 from registry_tools.pages.rulebook import RULES
 from registry_tools.pages.settled import LongTable, Settled, count_of
 from registry_tools.questions import compliance
@@ -78,7 +78,7 @@ def order(standing: Standing) -> tuple[object, ...]:
     )
 
 
-def row_of(settled: Settled, standing: Standing) -> Cells:
+def operator_cells(settled: Settled, standing: Standing) -> Cells:
     """The cells of an operator."""
     own = standing.account
     verdict = standing.verdict_in_words
@@ -136,7 +136,7 @@ def compliance_pages(settled: Settled, files: dict[str, str], year: int | None, 
         ),
         *(paragraph(f"{line}.") for line in compliance.closed_words(rows)),
     ]
-    shown = [row_of(settled, standing) for standing in rows]
+    shown = [operator_cells(settled, standing) for standing in rows]
     title = f"Compliance for {year}"
     own = LongTable(files["compliance"], title, Table(COLUMNS, NUMBERS), title, shown, lead)
     yield from own.pages(settled.frame, note=note, is_across=True)
@@ -178,7 +178,7 @@ def account_list_pages(settled: Settled, files: dict[str, str], note: str) -> It
     )
 
     def before(file: str, part: Sequence[Cells]) -> Markup:
-        return index.of_page(file, [int(visible(row[0])) for row in part])
+        return index.of_page(file, [int(words_in_cell(row[0])) for row in part])
 
     first, *others = ACCOUNT_COLUMNS
     columns = [first, NAME, *others] if settled.names.has(ACCOUNT) else ACCOUNT_COLUMNS

@@ -15,7 +15,7 @@ ROOMS = {"small": (60, "44rem"), "middle": (92, "62rem"), "dense": (145, "78rem"
 EVERYWHERE = "everywhere"
 MANY_ROWS = 100
 # Cells of these columns are not broken.
-DATES = {"Day", "Proposed", "Due", "In effect from"}
+DATES = {"Day", "At", "Proposed", "Due", "In effect from"}
 
 
 # The cells of a row: texts, elements, or what else has words.
@@ -84,7 +84,7 @@ def facts(pairs: Iterable[tuple[object, object]]) -> Markup:
     )
 
 
-def visible(cell: object) -> str:
+def words_in_cell(cell: object) -> str:
     """The words of a cell."""
     return TAGS.sub("", cell) if type(cell) is Markup else str(cell)
 
@@ -95,7 +95,7 @@ def letters_of(columns: Sequence[str], right: Collection[str], rows: Sequence[Ce
     # Numbers differ from row to row. Of other cells the first and the last ones show how long they are.
     looked_at, needed = [*rows[:MANY_ROWS], *rows[-MANY_ROWS:]], 0
     for place, name in enumerate(columns):
-        cells = {visible(row[place]) for row in (rows if name in right else looked_at)}
+        cells = {words_in_cell(row[place]) for row in (rows if name in right else looked_at)}
         words = cells if name in right or name in DATES else {word for cell in cells for word in cell.split()}
         needed += max(map(len, {*words, *name.split()})) + BETWEEN
     return needed

@@ -11,7 +11,7 @@ from registry_tools.pages.html import HEAD, PARTS, Cells, Markup, Table, heading
 from registry_tools.pages.rulebook import Rulebook
 from registry_tools.pages.settled import Settled, long_date
 from registry_tools.pages.statement import DayOfAccounts, Own, Statement
-from registry_tools.texts.checks import Check, plain
+from registry_tools.texts.checks import Check, without_marks
 from registry_tools.texts.own import OwnRow
 from registry_tools.texts.report import LogRow
 
@@ -58,12 +58,12 @@ class LetterWords(Rulebook):
     def words(self, markdown: str, root: str = "") -> str:
         """What to do after a refusal, in words for a holder."""
         name = next((check.name for check in self.checks.values() if check.advice == markdown), "")
-        return ADVICE.get(name) or letter_words(plain(markdown))
+        return ADVICE.get(name) or letter_words(without_marks(markdown))
 
 
 def meaning_of(check: Check) -> str:
     """Why the check refuses, in a letter."""
-    return MEANING.get(check.name) or letter_words(plain(check.meaning))
+    return MEANING.get(check.name) or letter_words(without_marks(check.meaning))
 
 
 def letter_words(text: str) -> str:
@@ -155,9 +155,7 @@ def page_of(title: str, lead: str, sections: list[Markup]) -> str:
     return f"{head}<body>\n{body}\n</body>\n</html>\n"
 
 
-def letter(
-    settled: Settled, days: list[DayOfAccounts], holder: int, places: dict[int, int], head: str
-) -> str:
+def letter(settled: Settled, days: list[DayOfAccounts], holder: int, places: dict[int, int], head: str) -> str:
     """The page of a holder: each account from the day at its place on; and the head of the folder that it was made
     of."""
     name = settled.names.holder(holder)

@@ -9,7 +9,7 @@ import argparse
 import datetime
 from collections import Counter
 from dataclasses import dataclass
-from typing import Iterator
+from typing import Any, Iterator
 
 from registry_tools.calendars.deadlines import DueDates
 from registry_tools.errors import WordsFault
@@ -55,10 +55,11 @@ def add_words(parser: argparse.ArgumentParser) -> None:
 
 
 def compliance_parts(
-    last: PastDay, named: int | None, deadline: datetime.date | None, due: DueDates, names: Labels
+    last: PastDay, named: int | None, deadline: datetime.date | None, due: DueDates, names: Labels, most: int | None
 ) -> Iterator[Markup]:
     """How operators stand after the last day, for the named year or the last one that is over. Where emissions are
-    missing nobody knows, and that is said. Without a named deadline it is that of the office."""
+    missing nobody knows, and that is said. Without a named deadline it is that of the office. At most so many
+    operators are shown."""
     yield heading("Compliance")
     try:
         year = last_year_over(last.day.head) if named is None else named
@@ -75,7 +76,7 @@ def compliance_parts(
             (names.account(row.account.number), names.holder(row.account.holder), bar(row), missing_of(row), until)
             for row in lacking
         ]
-        yield MISSED.of(f"Who is missing how much for {year}", own)
+        yield from first_rows_of(MISSED, f"Who is missing how much for {year}", own, most)
 
 
 def compliance_facts(rows: list[Standing], year: int) -> Markup:
@@ -200,11 +201,21 @@ def hand_rows(days: list[DayOfMonth], names: Labels) -> Iterator[tuple[datetime.
             yield day.date, names.account(change.account) if change.account else OF_RULES, change.words
 
 
-def hand_parts(days: list[DayOfMonth], names: Labels) -> Iterator[Markup]:
-    """The changes by hand."""
+def hand_parts(days: list[DayOfMonth], names: Labels, most: int | None) -> Iterator[Markup]:
+    """The changes by hand, at most so many."""
     yield heading("Changes by hand")
     rows = [*hand_rows(days, names)]
-    yield BY_HAND.of("Rows that people changed", rows) if rows else paragraph(NOTHING)
+    if rows:
+        yield from first_rows_of(BY_HAND, "Rows that people changed", rows, most)
+    else:
+        yield paragraph(NOTHING)
+
+
+def first_rows_of(table: Table, caption: str, rows: list[Any], most: int | None) -> Iterator[Markup]:
+    """A table of at most so many rows, and how many more there are."""
+    yield table.of(caption, rows[:most])
+    if most is not None and len(rows) > most:
+        yield paragraph(f"And {grouped(len(rows) - most)} more.")
 
 
 def days_of(said: argparse.Namespace, begin: datetime.date, end: datetime.date) -> tuple[list[DayOfMonth], PastDay]:
@@ -225,14 +236,15 @@ def days_of(said: argparse.Namespace, begin: datetime.date, end: datetime.date) 
     return days, last
 
 
-def parts_of(said: argparse.Namespace) -> tuple[str, int, list[Markup]]:
-    """What stands on the page: its title, how many days it tells of, and its parts."""
+def parts_of(said: argparse.Namespace, most: int | None = None) -> tuple[str, int, list[Markup]]:
+    """What stands on the page: its title, how many days it tells of, and its parts, with at most so many rows in a
+    table."""
     days, last = days_of(said, *past.span_of(said))
     deadline = past.date_or("--deadline", said.deadline, datetime.date.max) if said.deadline is not None else None
     due = DueDates() if said.pairs else past.office_of(said).settings.due
     names = naming.known_to(said)
-    compliance = compliance_parts(last, said.year, deadline, due, names)
-    parts = [*compliance, *totals_parts(days), *refusal_parts(days), *hand_parts(days, names)]
+    compliance = compliance_parts(last, said.year, deadline, due, names, most)
+    parts = [*compliance, *totals_parts(days), *refusal_parts(days), *hand_parts(days, names, most)]
     return f"{long_date(days[0].date)} to {long_date(days[-1].date)}", len(days), parts
 
 

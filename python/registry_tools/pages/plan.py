@@ -5,7 +5,7 @@ from dataclasses import dataclass, field
 
 from registry_tools.pages import grid
 from registry_tools.pages.html import Markup, joined, markup, paragraph, table, tag
-from registry_tools.pages.settled import Settled, count_of, in_words, outcome_in_words
+from registry_tools.pages.settled import Settled, count_of, outcome_in_words, record_in_words
 from registry_tools.texts.in_words import box_lines, grouped
 from registry_tools.texts.report import LogRow
 
@@ -41,7 +41,7 @@ def plan_of(log: Iterable[LogRow]) -> dict[int, Task]:
 
 def box_of(logged: LogRow, column: int, row: int) -> grid.Box:
     """The box of an instruction."""
-    note = f"{logged.record}: {in_words(logged)}; {outcome_in_words(logged)}"
+    note = f"{logged.record}: {record_in_words(logged)}; {outcome_in_words(logged)}"
     outcome = "done" if logged.is_done else f"refused, check {logged.code}"
     lines = [*box_lines(logged.record, logged.instruction), outcome]
     return grid.Box(column, row, lines, note, str(logged.record), not logged.is_done)
@@ -102,7 +102,10 @@ def waits_in_words(task: Task) -> str:
 def plan_table(tasks: Iterable[Task], caption: str) -> Markup:
     """What the picture shows, a row for each instruction, by levels."""
     rows = (
-        (task.logged.record, task.level, in_words(task.logged), outcome_in_words(task.logged), waits_in_words(task))
+        (
+            task.logged.record, task.level, record_in_words(task.logged), outcome_in_words(task.logged),
+            waits_in_words(task),
+        )
         for task in sorted(tasks, key=lambda task: (task.level, task.logged.record))
     )
     columns = ["Record", "Level", "Instruction", "Outcome", "Waits for (account)"]

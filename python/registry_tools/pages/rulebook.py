@@ -49,25 +49,26 @@ def link_to_check(code: int, name: str, root: str) -> Markup:
 
 
 class Rulebook:
-    """The words of the tables."""
+    """The words of the tables, on pages from which `root` leads to the folder, if they do not say so themselves."""
 
-    def __init__(self) -> None:
+    def __init__(self, root: str = "") -> None:
+        self.root = root
         numbered = enumerate(tables.CHECKS, 1)
         self.checks = {code: Check(code, own.name, own.meaning, own.advice) for code, own in numbered}
         self.kinds, self.statuses = tables.KINDS, tables.STATUSES
 
     def words(self, sentence: str, root: str = "") -> str:
         """A sentence of the tables, on a page from which `root` leads to the folder."""
-        return words_of(sentence, root)
+        return words_of(sentence, root or self.root)
 
     def check_link(self, code: int, root: str = "") -> str:
         """The name of a check, which leads to its row in the rules."""
-        return link_to_check(code, self.checks[code].name, root)
+        return link_to_check(code, self.checks[code].name, root or self.root)
 
     def act_link(self, act: str, root: str = "") -> Markup:
         """A link to an act in the rules."""
         name, anchor = ACTS[act]
-        return link(f"{root}{RULES}#{anchor}", name)
+        return link(f"{root or self.root}{RULES}#{anchor}", name)
 
 
 def document_parts(page: str) -> tuple[str, Markup]:

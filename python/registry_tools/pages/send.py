@@ -37,10 +37,11 @@ from registry_tools.progress import progress
 from registry_tools.questions.statements import rows_by_account, statement_over
 from registry_tools.second import rules
 from registry_tools.texts import pending
-from registry_tools.texts.accounts import Block
 from registry_tools.texts.report import Report
 
 EXAMPLE = "./day send out/sent --day 2025-09-24 --holder 5502 --office out/office"
+
+
 def add_words(parser: argparse.ArgumentParser) -> None:
     """Tells a parser the words of the command."""
     parser.add_argument("folder", metavar="FOLDER", help="the folder that is made")
@@ -85,7 +86,7 @@ def accounts_of(report: Report, wanted: list[int] | None) -> dict[int, list[int]
     holders: dict[int, list[int]] = {}
     for number, block in report.book.items():
         if block.kind in rules.HOLDERS:
-            holders.setdefault(holder_of(block), []).append(number)
+            holders.setdefault(block.holder, []).append(number)
     for holder in wanted or []:
         if holder not in holders:
             raise WordsFault(f"--holder {holder}: no operator, aircraft or trading account has this holder")
@@ -105,14 +106,9 @@ def places_of(days: list[DayTold], numbers: list[int]) -> dict[int, int]:
     for place, day in enumerate(days[:-1], 1):
         book = day.report.book
         for number in numbers:
-            if number in book and holder_of(book[number]) != holder_of(last[number]):
+            if number in book and book[number].holder != last[number].holder:
                 places[number] = place
     return places
-
-
-def holder_of(block: Block) -> int:
-    """The holder of an account."""
-    return int(block.rows[0].split(",")[3])
 
 
 @dataclass

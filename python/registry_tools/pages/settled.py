@@ -7,7 +7,7 @@ from typing import Any, Callable, Collection, Iterable, Iterator, Sequence, Type
 
 from registry_tools.calendars.due_days import NOT_DUE, due_day_after, head_after
 from registry_tools.office.labels import ACCOUNT, Labels
-from registry_tools.pages.html import Cells, Frame, Markup, Table, joined, link, markup, paragraph, tag, visible
+from registry_tools.pages.html import Cells, Frame, Markup, Table, joined, link, markup, paragraph, tag, words_in_cell
 from registry_tools.pages.rulebook import Rulebook
 from registry_tools.second import rules
 from registry_tools.texts import changes
@@ -32,7 +32,7 @@ NOT_KNOWN = (
 MOST_CHANGES = 500
 
 
-def in_words(logged: LogRow) -> str:
+def record_in_words(logged: LogRow) -> str:
     """An instruction in words."""
     return instruction_in_words(logged.instruction)
 
@@ -163,7 +163,7 @@ class LongTable:
     def pages(self, frame: Frame, **more: Any) -> Iterator[tuple[str, str]]:
         """The file and the text of each page; `more` goes to the frame."""
         parts = [*rows_of_parts(self.rows)] or [[]]
-        first_words = [visible(part[0][0]) if part else "" for part in parts]
+        first_words = [words_in_cell(part[0][0]) if part else "" for part in parts]
         for number, part in enumerate(parts, 1):
             caption = self.caption if len(parts) == 1 else f"{self.caption}, part {number} of {len(parts)}"
             file = page_name(self.file, number)

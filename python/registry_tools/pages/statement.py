@@ -3,7 +3,6 @@ import datetime
 from typing import Iterator
 
 from registry_tools.pages.html import Cells, Markup, Table, heading, paragraph
-from registry_tools.pages.plan import figure
 from registry_tools.pages.rulebook import ACTS
 from registry_tools.pages.settled import NO_DUE_DAY, Settled
 from registry_tools.second import rules
@@ -12,7 +11,6 @@ from registry_tools.texts.in_words import grouped
 from registry_tools.texts.own import OwnRow, own_instruction, own_log, users_of
 from registry_tools.texts.pending import Waiting
 from registry_tools.texts.report import LogRow, Report
-
 
 ROOT = "../"
 KINDS = rules.KINDS

@@ -7,7 +7,7 @@ from registry_tools.pages.html import Cells, Markup, Table, link, paragraph, tab
 from registry_tools.pages.plan import plan_parts
 from registry_tools.pages.rulebook import ACTS
 from registry_tools.pages.settled import (
-    NO_DUE_DAY, ByHand, LongTable, Settled, by_hand_parts, count_of, in_words, long_date,
+    NO_DUE_DAY, ByHand, LongTable, Settled, by_hand_parts, count_of, long_date, record_in_words,
 )  # fmt: skip
 from registry_tools.second.rules import KINDS
 from registry_tools.texts.books import Movements, sums_of
@@ -103,17 +103,18 @@ def equation(kind: str, before: int, moved: Movements, after: int) -> Markup:
     )
 
 
-def log_row(settled: Settled, logged: LogRow) -> Cells:
+def log_cells(settled: Settled, logged: LogRow) -> Cells:
     """An instruction as a row of LOG_COLUMNS. Of an assessment that was done, with its figure."""
     i = logged.instruction
     figure = "" if logged.figure is None else f": figure {grouped(logged.figure)}"
     proposer, approver = (("" if own is None else settled.names.user(own)) for own in (i.proposer, i.approver))
-    return (logged.record, settled.accounts_of(logged), in_words(logged) + figure, i.proposed, proposer, approver)
+    accounts, words = settled.accounts_of(logged), record_in_words(logged) + figure
+    return logged.record, accounts, words, i.proposed, proposer, approver
 
 
 def done_rows(settled: Settled) -> list[Cells]:
     """The rows of what was done."""
-    return [log_row(settled, logged) for logged in settled.log if logged.is_done]
+    return [log_cells(settled, logged) for logged in settled.log if logged.is_done]
 
 
 def done_parts(settled: Settled) -> list[Markup]:
@@ -144,7 +145,7 @@ def refused_page(code: int) -> str:
 def refusals_of(settled: Settled, code: int, own: list[LogRow]) -> Iterator[Markup]:
     """A check with its meaning, its remedy and the instructions that it refused."""
     rulebook, check = settled.rulebook, settled.rulebook.checks[code]
-    rows = [log_row(settled, logged) for logged in own[:MOST_REFUSED]]
+    rows = [log_cells(settled, logged) for logged in own[:MOST_REFUSED]]
     caption = (
         f"Refused as {check.name}"
         if len(rows) == len(own)
@@ -197,7 +198,7 @@ def waiting_rows(settled: Settled) -> list[Cells]:
     return [(waits.record or "", instruction_in_words(i), i.proposed, waits.due or NO_DUE_DAY) for waits, i in pairs]
 
 
-def waiting_parts(settled: Settled) -> list[Markup]:
+def waiting_instructions(settled: Settled) -> list[Markup]:
     """The instructions that wait for their due day; of many, the first ones."""
     rows = waiting_rows(settled)
     if not rows:
@@ -230,7 +231,7 @@ def refused_pages(settled: Settled, files: dict[str, str], note: str) -> Iterato
     for code, own in settled.refused().items():
         if len(own) > MOST_REFUSED:
             check = settled.rulebook.checks[code]
-            rows = [log_row(settled, logged) for logged in own]
+            rows = [log_cells(settled, logged) for logged in own]
             first = [paragraph(link(f"{files['day']}#refused-{code}", WAY_BACK)), *meaning(settled, check)]
             title = f"Refused as {check.name} on {settled.head.date}"
             own_table = LongTable(
@@ -245,7 +246,7 @@ def sections(settled: Settled, files: dict[str, str], by_hand: ByHand) -> Iterat
     yield "Instructions", [acts_table(settled)] if settled.log else []
     yield "Allowances", totals_parts(settled)
     yield "Refused", refusals_parts(settled) if settled.log else []
-    yield "Waiting for their due day", waiting_parts(settled) if settled.log or settled.waiting else []
+    yield "Waiting for their due day", waiting_instructions(settled) if settled.log or settled.waiting else []
     yield "Changed by hand", by_hand_parts(settled, by_hand)
     yield "Done", done_parts(settled) if settled.log else []
     yield "The order of the instructions", plan_parts(settled) if settled.log else []

@@ -1,5 +1,5 @@
-"""The page of the workers: who executed what. Which worker executes what differs from run to run, and is in no report:
-it comes from a text of lanes, with a line for each worker."""
+"""The page of the workers: who owned and executed what. Which worker executes what differs from run to run, and is in no
+report: it comes from a text of lanes, with a line for each worker that owns regions of the book."""
 from collections import Counter
 from collections.abc import Iterator
 
@@ -8,10 +8,26 @@ from registry_tools.pages.grid import Names
 from registry_tools.pages.html import Markup, paragraph, table, tag
 from registry_tools.pages.plan import MOST_BOXES, Task, arrows_of, bars, both, box_of, figure, plan_of
 from registry_tools.pages.rulebook import ACTS
-from registry_tools.pages.settled import Settled, count_of, in_words, outcome_in_words
+from registry_tools.pages.settled import Settled, count_of, outcome_in_words, record_in_words
 from registry_tools.texts.in_words import grouped
-from registry_tools.texts.lanes import LanesFault, columns, read_lanes
+from registry_tools.texts.lanes import LanesFault, columns_of_lanes, read_lanes
 from registry_tools.texts.rows import bytes_of
+
+
+def bundles_of(tasks: dict[int, Task]) -> list[list[int]]:
+    """The bundles of a day, each as its records in order: instructions that touch a common account, directly or over
+    others. Each bundle is in one region, and so in one lane."""
+    bundles: dict[int, list[int]] = {}
+    label: dict[int, int] = {}
+    for record, task in sorted(tasks.items()):
+        found = sorted({label[tail] for tail, _ in task.tails})
+        own = found[0] if found else record
+        for other in found[1:]:
+            label.update(dict.fromkeys(bundles[other], own))
+            bundles[own] += bundles.pop(other)
+        bundles.setdefault(own, []).append(record)
+        label[record] = own
+    return [sorted(bundle) for bundle in bundles.values()]
 
 
 def lanes_of(path: str, settled: Settled, tasks: dict[int, Task]) -> tuple[list[list[int]], dict[int, int]]:
@@ -34,7 +50,7 @@ def lanes_of(path: str, settled: Settled, tasks: dict[int, Task]) -> tuple[list[
             f"each place from 1 to {len(tasks)} once, as {settled.day.path} has them",
         )
     arrows = [(tail, head) for head, task in tasks.items() for tail, _ in task.tails]
-    column = columns(records, arrows)
+    column = columns_of_lanes(records, arrows)
     if column is None:
         raise FileFault(
             path,
@@ -43,7 +59,17 @@ def lanes_of(path: str, settled: Settled, tasks: dict[int, Task]) -> tuple[list[
             "an order in which an instruction does not wait for another one",
             "an order that follows the plan",
         )
+    owner = owners_of(records)
+    for bundle in bundles_of(tasks):
+        if len({owner[record] for record in bundle}) > 1:
+            places = ", ".join(str(record - first + 1) for record in bundle)
+            raise FileFault(path, 0, "", f"places {places} in several lanes", "instructions on common accounts in one")
     return records, column
+
+
+def owners_of(records: list[list[int]]) -> dict[int, int]:
+    """The worker that executed each record."""
+    return {record: worker for worker, lane in enumerate(records) for record in lane}
 
 
 def name_of(worker: int) -> str:
@@ -62,12 +88,27 @@ def lanes_parts(tasks: dict[int, Task], records: list[list[int]], column: dict[i
     said = f"A lane for each of {count_of(len(records), 'worker', 'workers')}, with the arrows of the plan"
     yield figure(said, both(said, boxes, [*arrows_of(tasks, tasks)], names))
     rows = (
-        (name_of(worker), place, record, in_words(tasks[record].logged), outcome_in_words(tasks[record].logged))
+        (name_of(worker), place, record, record_in_words(tasks[record].logged), outcome_in_words(tasks[record].logged))
         for worker, lane in enumerate(records)
         for place, record in enumerate(lane, 1)
     )
     yield table(
         "The lanes in words", ["Worker", "Its turn", "Record", "Instruction", "Outcome"], rows, right=("Its turn",)
+    )
+
+
+def owned_parts(tasks: dict[int, Task], records: list[list[int]]) -> Iterator[Markup]:
+    """Which worker owned the region of which bundle."""
+    owner = owners_of(records)
+    bundles = sorted(bundles_of(tasks), key=lambda bundle: (owner[bundle[0]], -len(bundle)))
+    rows = (
+        (name_of(owner[bundle[0]]), ", ".join(map(str, bundle)), grouped(len(bundle))) for bundle in bundles
+    )
+    yield table(
+        "Who owned which instructions that belong together",
+        ["Worker", "Records", "Instructions"],
+        rows,
+        right=("Instructions",),
     )
 
 
@@ -91,13 +132,12 @@ def workers_page(settled: Settled, files: dict[str, str], path: str, note: str) 
     records, column = lanes_of(path, settled, tasks)
     lead = paragraph(
         f"{count_of(len(records), 'worker', 'workers')} settled {count_of(len(tasks), 'instruction', 'instructions')}. "
-        "Workers count from 0. They take single instructions and pass accounts on to each other, as those of "
-        "bench_workers do; the program leaves all instructions on common accounts to one worker. "
-        "Another run may give other lanes, but always the same report.",
+        "Workers count from 0. Each owns regions of the book while it settles them, so instructions on common accounts "
+        "are in one lane. Another run may give other lanes, but always the same report.",
         class_="lead",
     )
     parts = [*shares_parts(tasks, records)] if tasks else []
     if 0 < len(tasks) <= MOST_BOXES:
-        parts += [tag("h2", "Lanes"), *lanes_parts(tasks, records, column)]
+        parts += [*owned_parts(tasks, records), tag("h2", "Lanes"), *lanes_parts(tasks, records, column)]
     title = f"Who executed what on {settled.head.date}"
     return settled.frame.page(title, lead, *parts, current=files["workers"], note=note)

@@ -40,7 +40,7 @@ from registry_tools.progress import progress
 from registry_tools.second import rules
 from registry_tools.showing import Cell
 from registry_tools.texts.day_text import DayText
-from registry_tools.texts.in_words import grouped, table
+from registry_tools.texts.in_words import grouped, table_lines
 from registry_tools.texts.outdated import Entries, was_once_right
 from registry_tools.texts.pairs import read_pair
 from registry_tools.texts.report import Report
@@ -172,7 +172,9 @@ def compliant_share(day: DayText, report: Report, year: int) -> tuple[int, int]:
     entries, begins = Entries(day, report), f"figure,{year},"
     rows, blocks = report.source.rows, [*report.book.values()]
     count = sum(rows[block.index].split(",", 3)[2] in rules.OPERATORS for block in blocks)
-    places = [place for place in range(report.first_account, report.first_totals) if rows[place].startswith(begins)]
+    # (of the rows of accounts, only figures begin with this letter)
+    figures = (place for place in range(report.first_account, report.first_totals) if rows[place][0] == "f")
+    places = [place for place in figures if rows[place].startswith(begins)]
     determined = [blocks[bisect.bisect_right(blocks, place, key=AT) - 1] for place in places]
     accounts = (block.account() for block in determined if block.kind in rules.OPERATORS)
     verdicts = (standing_of(day.head, account, year, entries).verdict for account in accounts)
@@ -217,7 +219,7 @@ def closed_words(rows: Iterable[Standing]) -> list[str]:
     return [f"{own} closed: no act is done on a closed account, so that stays"] if count else []
 
 
-def in_words(standing: Standing, names: Labels) -> list[str]:
+def standing_cells(standing: Standing, names: Labels) -> list[str]:
     """The cells of an account in the table, which says the year and what is missing once."""
     own, figures = standing.account, (
         standing.surrendered,
@@ -238,7 +240,8 @@ def as_table(day: DayText, rows: Sequence[Standing], year: int, names: Labels) -
     head = [column for column in COLUMNS.names if column not in ("year", "missing")]
     right = {*head} - {"kind", "status", "verdict"}
     title = f"Compliance for {year}, in the period {first} to {last}, after {day.head.date}"
-    return "\n".join([title, "", *table(head, [in_words(own, names) for own in rows], right), "", *counts(rows), ""])
+    lines = table_lines(head, [standing_cells(own, names) for own in rows], right)
+    return "\n".join([title, "", *lines, "", *counts(rows), ""])
 
 
 def run(words: argparse.Namespace) -> int:

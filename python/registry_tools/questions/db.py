@@ -93,7 +93,7 @@ def of_folder(said: argparse.Namespace) -> tuple[int, int]:
 def of_pairs(said: argparse.Namespace) -> tuple[int, int]:
     """Makes a database of paths, of the one that is there and the days that it lacks."""
     pairs, there = past.pairs_of(said), days_there(said.file)
-    days: list[Row] = [("", *sums_of(pair)) for pair in pairs]
+    days: list[Row] = [("", *sums_of_files(pair)) for pair in pairs]
     compare(said.file, there, days, [pair.day for pair in pairs])
     with made_aside(said.file) as beside:
         if Path(said.file).exists():
@@ -112,7 +112,7 @@ def fill(database: sqlite3.Connection, path: str, pairs: list[Pair], begin: int)
     first = max(0, begin - 1)
     for place, past_day in enumerate(past.read_all(pairs[first:]), first):
         if place >= begin:
-            daybase.add_day(database, past_day, sums_of(pairs[place]))
+            daybase.add_day(database, past_day, sums_of_files(pairs[place]))
     faults = database.execute("PRAGMA foreign_key_check").fetchall()
     if faults:
         raise FileFault(path, 0, "", f"a foreign key leads nowhere: {faults[0]}", "")
@@ -131,6 +131,6 @@ def compare(path: str, there: list[Row], days: list[Row], names: list[str]) -> N
             raise FileFault(path, 0, "SHA-256", f"others of {date}", expected)
 
 
-def sums_of(pair: Pair) -> tuple[str, str]:
+def sums_of_files(pair: Pair) -> tuple[str, str]:
     """The sums of the two texts of a pair."""
     return files.sum_of(bytes_of(pair.day)), files.sum_of(bytes_of(pair.report))

@@ -9,7 +9,8 @@
   calendar ends     the last working day that the text knows
 
 Deadlines are those of office.ini; no rule of a day text tells one. Without --until it shows as many days ahead as
-office.ini says under [due] lead; without that, 30. An operator whose surrendered allowances suffice is not shown.
+office.ini says under [due] lead; without that, 30. An operator whose surrendered allowances suffice is not shown; one
+whose emissions lack behind their deadline is shown with that for surrenders.
 
 --ics writes the same as a calendar (iCalendar), which other programs take in.
 """
@@ -28,6 +29,7 @@ from registry_tools.notes import counted
 from registry_tools.office import composing, folder, labels, naming, past, words
 from registry_tools.office.folder import Office
 from registry_tools.office.labels import Labels
+from registry_tools.office.waits import waits_of
 from registry_tools.output import NewFile
 from registry_tools.questions.compliance import NO_EMISSIONS, SETTLED, Standing, standings
 from registry_tools.showing import Cell
@@ -101,24 +103,26 @@ def deadlines(dates: DueDates, day: DayText, report: Report, names: Labels) -> I
     head = day.head
     first, last = head.periods[head.current - 1]
     for year in range(first, min(last, head.date.year - 1) + 1):
-        surrender, emissions = dates.surrender_of(year), dates.emissions_of(year)
-        if not any(date and date >= head.date for date in (surrender, emissions)):
+        named = dates.surrender_of(year), dates.emissions_of(year)
+        surrender, emissions = (date if date and date >= head.date else None for date in named)
+        if not surrender and not emissions:
             continue
         for standing in standings(day, report, year):
-            yield from (own for own in of_standing(standing, surrender, emissions, names) if own.date >= head.date)
+            yield from of_standing(standing, surrender, emissions, names)
 
 
 def of_standing(
     standing: Standing, surrender: datetime.date | None, emissions: datetime.date | None, names: Labels
 ) -> Iterator[Due]:
-    """What an operator has to do for a year."""
+    """What an operator has to do for a year, by the deadlines that are not over. Emissions that lack behind their own
+    deadline are due by the one for surrenders: before them nobody knows what is missing."""
     account, year = standing.account, standing.year
     if standing.verdict in SETTLED or account.status == "closed":
         return
     holder = names.holder(str(account.holder))
-    if standing.verdict == NO_EMISSIONS and emissions:
+    if standing.verdict == NO_EMISSIONS and (date := emissions or surrender):
         lacking = ", ".join(map(str, standing.years_without_emissions))
-        yield Due(emissions, DEADLINE, account.number, None, f"emissions of {lacking} are not entered: holder {holder}")
+        yield Due(date, DEADLINE, account.number, None, f"emissions of {lacking} are not entered: holder {holder}")
     if standing.missing and surrender:
         missing = grouped(standing.missing)
         yield Due(surrender, DEADLINE, account.number, None, f"{missing} are missing for {year}: holder {holder}")
@@ -144,7 +148,7 @@ def of_rows(day: DayText, report: Report, names: Labels) -> Iterator[Due]:
 
 def waiting(office: Office, names: Labels) -> Iterator[Due]:
     """The instructions that wait. One without a due day in the calendar is not due on a day that is known."""
-    for own in composing.waits_of(office):
+    for own in waits_of(office):
         if own.due:
             text = instruction_in_words(own.instruction, names.account)
             yield Due(own.due, WAITING, own.instruction.first, own.record, text)
@@ -185,7 +189,7 @@ def next_dates(office: Office, most: int) -> list[tuple[datetime.date, str]]:
 
 def waiting_dates(office: Office) -> Iterator[tuple[datetime.date, str]]:
     """On which days instructions that wait are due."""
-    count = Counter(own.due for own in composing.waits_of(office) if own.due)
+    count = Counter(own.due for own in waits_of(office) if own.due)
     for date, often in count.items():
         yield date, f"{counted(often, 'instruction that waits is', 'instructions that wait are')} due"
 

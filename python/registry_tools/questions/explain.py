@@ -14,7 +14,6 @@ exit status: 0 if the text has no fault (with --mend: if none is left), else 1.
 import argparse
 import itertools
 import sys
-from dataclasses import field
 from typing import Iterator
 
 from registry_tools.calendars import working_days
@@ -143,7 +142,7 @@ def run(words: argparse.Namespace) -> int:
         lines = [f"{words.day} has no fault: {counts}"]
         left_out = working_days.left_out(day.head.working_days)
         if left_out:
-            lines.append(f"weekdays without a work row: {working_days.in_words(left_out)}")
+            lines.append(f"weekdays without a work row: {working_days.days_in_words(left_out)}")
         write_answer("\n".join([*lines, ""]), words.to)
         return 0
     lines, _ = explained(text)

@@ -14,7 +14,7 @@ from registry_tools import showing, tables
 from registry_tools.errors import FOUND, WordsFault
 from registry_tools.office import index, naming, past
 from registry_tools.office.asking import HOLDER_HAS, NAMING, logged
-from registry_tools.office.labels import USER, Label
+from registry_tools.office.labels import USER, Label, Labels
 from registry_tools.second import faults
 from registry_tools.showing import Cell
 from registry_tools.texts.report import LogRow
@@ -43,16 +43,22 @@ def run(said: argparse.Namespace) -> int:
     """Runs the command, and answers the exit status."""
     begin, end = past.span_of(said)
     names = naming.known_to(said)
-    said.account = naming.number_of("--account", said.account, names)
-    said.user = naming.number_of("--user", said.user, names, USER)
-    said.holder = None
-    if said.name is not None:
-        look_for(said, naming.label_of(said.name, said, names))
+    take_names(said, names)
     found = in_pairs(said, begin, end) if said.pairs else in_folder(said, begin, end)
     own = accounts_meant(said)
     rows = [cells for logged in found for cells in cells_of(logged, own)]
     showing.show(said, COLUMNS, naming.rows_shown(said, COLUMNS, rows, names))
     return 0 if rows else FOUND
+
+
+def take_names(said: argparse.Namespace, names: Labels) -> None:
+    """Puts numbers in place of the names of an account, of a user and of what is called so. Raises WordsFault if
+    nothing has such a name."""
+    said.account = naming.number_of("--account", said.account, names)
+    said.user = naming.number_of("--user", said.user, names, USER)
+    said.holder = None
+    if said.name is not None:
+        look_for(said, naming.label_of(said.name, said, names))
 
 
 def accounts_meant(said: argparse.Namespace) -> set[int]:

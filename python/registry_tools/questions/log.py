@@ -97,7 +97,7 @@ def entry_in_effect(accounts: Accounts, i: rules.Instruction) -> datetime.date |
     return account.trusted.get(rules.known(i.other), "") if account else ""
 
 
-def rows_of(report: Report, due_days: dict[int, datetime.date | None]) -> Iterator[LogCells]:
+def log_rows(report: Report, due_days: dict[int, datetime.date | None]) -> Iterator[LogCells]:
     """The rows of a report. `due_days` has the due day of each record, where it is known."""
     accounts = Accounts(report.book)
     for logged in report.log:
@@ -178,7 +178,7 @@ def run(words: argparse.Namespace) -> int:
     for day in days:
         if day.instructions and day.head.date not in map(report_date, reports):
             raise WordsFault(f"no report is of {day.head.date}, the day of {day.path}")
-    rows = [row for report in reports for row in rows_of(report, due_days_of(report, days)) if is_wanted(row, words)]
+    rows = [row for report in reports for row in log_rows(report, due_days_of(report, days)) if is_wanted(row, words)]
     look_for_account(reports, words.account)
     write_answer(showing.for_programs(words, COLUMNS.names, [cells_of(cells) for cells in rows]), words.to)
     return 0

@@ -83,6 +83,11 @@ class Instruction:
     year: int | None = None
     tonnes: int | None = None
 
+    @property
+    def row(self) -> str:
+        """The row of a day text that tells it."""
+        return ",".join(["do", *self.fields])
+
 
 @dataclass
 class Day:
@@ -131,7 +136,7 @@ def known(value: T | None) -> T:
 # Reading.
 
 
-def rows_of(text: bytes) -> Iterator[list[str]]:
+def fields_in(text: bytes) -> Iterator[list[str]]:
     """The rows of a text, which is given as bytes: lists of fields without their quotes. An empty line is no row."""
     # One letter stands for each byte, since a text with a fault may have any bytes. The reader refuses the byte 0. No
     # valid field has it, nor the byte 1, which stands in its place: so the faults are the same.
@@ -141,12 +146,12 @@ def rows_of(text: bytes) -> Iterator[list[str]]:
     return filter(None, csv.reader(io.StringIO(letters, newline="")))
 
 
-def read_day(text: bytes) -> Day:
+def day_in(text: bytes) -> Day:
     """The day of a text without a fault."""
-    return day_of(rows_of(text))
+    return day_of_fields(fields_in(text))
 
 
-def day_of(rows: Iterable[list[str]]) -> Day:
+def day_of_fields(rows: Iterable[list[str]]) -> Day:
     """The day of these rows, each a list of fields: a row `day` stands before all that are of the day, and a row
     `account` before those of its lists."""
     for tag, *words in rows:

@@ -8,7 +8,7 @@ from dataclasses import dataclass, field
 from typing import Any, Sequence
 
 from registry_tools import tables
-from registry_tools.second.days import KINDS, OPERATORS, rows_of
+from registry_tools.second.days import KINDS, OPERATORS, fields_in
 from registry_tools.second.fields import (
     ACCOUNT_KINDS, ACTS, ACT_WORDS, BLOCK, DISTRIBUTE, FIELDS, LISTS, PROPOSAL, RISING, STATUSES, Fault, Field, act,
     date, fields_of_act, form_of, forms_of_act, maybe, number, one_of, signed,
@@ -190,7 +190,7 @@ def first_fault(text: bytes) -> str:
     """The line that the program has to write on standard error of a day text, which is given as bytes; nothing if the
     text has no fault."""
     reading, place = Reading(), 0
-    for place, row in enumerate(rows_of(text), 1):
+    for place, row in enumerate(fields_in(text), 1):
         try:
             reading.add(row)
         except Fault as fault:

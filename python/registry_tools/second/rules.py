@@ -16,15 +16,15 @@ from registry_tools.second.checks import (
     outside_calendar, unknown_account,
 )  # fmt: skip
 from registry_tools.second.days import (
-    HOLDERS, KINDS, OPERATORS, Account, Day, Instruction, Row, account_of, day_of, known, read_day,
-    read_instruction, rows_of,
+    HOLDERS, KINDS, OPERATORS, Account, Day, Instruction, Row, account_of, day_in, day_of_fields, fields_in, known,
+    read_instruction,
 )  # fmt: skip
 
 __all__ = [
     "BETWEEN", "BY_ADMINISTRATORS", "CHECKS", "HOLDERS", "KINDS", "LEAVES", "OF_KINDS", "OPERATORS", "RETIRES_AS",
     "Account", "Asked", "Day", "Instruction", "Logged", "Row", "account_of", "account_rows", "answers", "asked_for",
-    "carry_out", "day_of", "known", "log_by_account", "name_of", "named", "not_due", "outside_calendar", "plan",
-    "read_day", "read_instruction", "report", "rows_of", "settle", "statement", "totals", "touched",
+    "carry_out", "day_in", "day_of_fields", "fields_in", "known", "log_by_account", "name_of", "named", "not_due",
+    "outside_calendar", "plan", "read_instruction", "report", "settle", "statement", "totals", "touched",
     "unknown_account", "yes_or_no",
 ]  # fmt: skip
 
@@ -178,7 +178,7 @@ def report(day: Day, log: list[Logged]) -> Iterator[str]:
 def answers(text: bytes) -> dict[str, str]:
     """What the program has to write of a day text, which is given as bytes, by the words of each command; of
     `statement`, for each account."""
-    day = read_day(text)
+    day = day_in(text)
     opening = {number: dict(account.held) for number, account in day.accounts.items()}
     waits = [*plan(day)]
     log = [*settle(day)]

@@ -21,6 +21,7 @@ from dataclasses import dataclass, field
 
 from registry_tools.errors import FileFault, shown
 from registry_tools.sheets.sheet import Stored
+from registry_tools.texts.in_words import as_looked_up
 from registry_tools.texts.rows import packed_bytes_of
 
 COLUMNS, ALWAYS, FORM = "columns", "always", "form"
@@ -30,11 +31,6 @@ EXAMPLE = re.compile(r"1(?P<between>\D?)234(?P=between)567(?:(?P<point>\D)0+)?")
 AN_EXAMPLE = "1234567 as it is written there: 1.234.567, 1,234,567.00, 1 234 567"
 # The blanks by which a spreadsheet parts thousands look the same.
 BLANKS = "  \N{NO-BREAK SPACE}\N{NARROW NO-BREAK SPACE}\N{THIN SPACE}"
-
-
-def plain(word: str) -> str:
-    """A heading or a word as it is looked up: without capitals, and each blank in it a single one."""
-    return " ".join(word.split()).casefold()
 
 
 @dataclass(frozen=True)
@@ -50,11 +46,11 @@ class Mapping:
 
     def column(self, heading: str) -> str | None:
         """The column that a heading names; nothing, if it is passed over; None, if the mapping does not know it."""
-        return self.columns.get(plain(heading))
+        return self.columns.get(as_looked_up(heading))
 
     def word(self, column: str, cell: str) -> str:
         """What a cell of a column says."""
-        return self.words[column].get(plain(cell), cell) if column in self.words else cell
+        return self.words[column].get(as_looked_up(cell), cell) if column in self.words else cell
 
 
 def read(path: str, known: Iterable[str]) -> Mapping:
@@ -62,7 +58,7 @@ def read(path: str, known: Iterable[str]) -> Mapping:
     parser = configparser.ConfigParser(
         interpolation=None, delimiters=("=",), comment_prefixes=("#",), default_section="", empty_lines_in_values=False
     )
-    parser.optionxform = plain  # type: ignore[assignment]
+    parser.optionxform = as_looked_up  # type: ignore[assignment]
     try:
         parser.read_string(packed_bytes_of(path).decode("utf-8-sig"), path)
     except UnicodeDecodeError:
@@ -114,4 +110,3 @@ def amount_reader(example: str | None, path: str) -> Callable[[str], str]:
         return match[1] + re.sub("[^0-9]", "", match[2]) if match else word
 
     return read_amount
-

@@ -12,6 +12,8 @@ DATE_COLUMNS = {"proposed"}
 # (of a distribution, each receiver has its amount)
 AMOUNTS = re.compile("amount[2-8]?|tonnes|correction|general|aviation", re.ASCII)
 SHOWN_DAY = ("31", "12", "2026")
+# How somebody tells what his headings mean.
+OTHER_HEADINGS = "--mapping names other headings"
 # A column that a mapping passes over.
 PASSED_OVER = ""
 
@@ -69,7 +71,7 @@ class Table:
                 continue
             if name not in self.known:
                 found, expected = shown(self.headings[place]), f"one of {', '.join(self.known)}"
-                yield self.sheet.fault(0, place, "heading", found, f"{expected}; --mapping names other headings")
+                yield self.sheet.fault(0, place, "heading", found, f"{expected}; {OTHER_HEADINGS}")
             elif name in self.columns[:place]:
                 yield self.sheet.fault(0, place, "heading", f"a second column {name}", "each column once")
             elif name in self.mapping.always:

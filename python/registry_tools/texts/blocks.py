@@ -31,6 +31,11 @@ class Block:
         return self.source.rows[self.index].split(",", 3)[2]
 
     @property
+    def holder(self) -> int:
+        """The holder of the account."""
+        return int(self.source.rows[self.index].split(",", 4)[3])
+
+    @property
     def held_fields(self) -> list[str]:
         """What the account holds, as its row says it: general and aviation."""
         return self.source.rows[self.index].split(",")[8:]

@@ -56,9 +56,9 @@ def sums_of(rows: Iterable[str]) -> dict[str, Sums]:
             if is_reversed == "no":
                 retired[what, kind] += int(amount)
         elif row[0] == "a":
-            fields = row.split(",")
-            held["general"] += int(fields[8])
-            held["aviation"] += int(fields[9])
+            _, general, aviation = row.rsplit(",", 2)
+            held["general"] += int(general)
+            held["aviation"] += int(aviation)
     return {kind: Sums(held[kind], retired["surrender", kind], retired["deletion", kind]) for kind in rules.KINDS}
 
 

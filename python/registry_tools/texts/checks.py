@@ -18,7 +18,7 @@ class Check:
     advice: str
 
 
-def plain(text: str) -> str:
+def without_marks(text: str) -> str:
     """A sentence of a table without its marks. A link that only says `below` names the place."""
     words = LINK.sub(lambda link: f"docs/RULES.md{link[2]}" if link[1] == "below" else link[1], text)
     return streams.by_name(words.replace("`", ""))
@@ -28,7 +28,7 @@ def plain(text: str) -> str:
 def checks() -> dict[str, Check]:
     """All checks by their names, in the order in which they are asked."""
     return {
-        own.name: Check(code, own.name, plain(own.meaning), plain(own.advice))
+        own.name: Check(code, own.name, without_marks(own.meaning), without_marks(own.advice))
         for code, own in enumerate(tables.CHECKS, 1)
     }
 

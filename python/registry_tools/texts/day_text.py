@@ -92,7 +92,7 @@ def day_of(source: Rows, known: Known | None = None) -> DayText:
         raise RowFault(
             len(source) + 1, "end", source.path, source.line(len(source)), "end", "the end of the file", lacking
         )
-    head = rules.day_of(row.split(",") for row in source.rows[:first_account])
+    head = rules.day_of_fields(row.split(",") for row in source.rows[:first_account])
     instructions = [rules.read_instruction(row.split(",")[1:]) for row in source.rows[first_do:-1]]
     return DayText(source, reader.reading.version, head, book, instructions, first_account, first_do)
 

@@ -34,7 +34,7 @@ def book_of(source: Rows, first: int, known: dict[int, Block]) -> tuple[dict[int
 def filed_day(source: Rows, before: Report | None = None) -> DayText:
     """The day text of these rows; quicker with the report of the day before. Raises ValueError if it can't be one."""
     first = next((place for place, row in enumerate(source.rows) if row.startswith(("account,", "do,", "end"))), 0)
-    head = rules.day_of(row.split(",") for row in source.rows[:first])
+    head = rules.day_of_fields(row.split(",") for row in source.rows[:first])
     book, behind = book_of(source, first, before.book if before else {})
     instructions = [rules.read_instruction(row.split(",")[1:]) for row in source.rows[behind:-1]]
     version = int(source.rows[0].removeprefix("format,"))

@@ -10,7 +10,7 @@ from registry_tools.texts.day_text import DayText
 SINGLE, LISTS = ("format", "current", "lags"), ("surrender", "admin")
 
 
-def rows_of(day: DayText, tag: str) -> list[str]:
+def rows_with_tag(day: DayText, tag: str) -> list[str]:
     """The rows with this tag before the accounts."""
     return [row for row in day.heading if row.partition(",")[0] == tag]
 
@@ -18,13 +18,13 @@ def rows_of(day: DayText, tag: str) -> list[str]:
 def heading_differences(before: DayText, day: DayText) -> Iterator[FileFault]:
     """What was changed by hand, each as a fault of the later text."""
     for tag in SINGLE:
-        old, new = rows_of(before, tag), rows_of(day, tag)
+        old, new = rows_with_tag(before, tag), rows_with_tag(day, tag)
         if old != new:
             found, expected = (shown(rows[0]) if rows else NO_ROW for rows in (new, old))
             where = f"{expected}, as {before.path}:{before.line_of_tag(tag)}"
             yield FileFault(day.path, day.line_of_tag(tag), tag, found, where)
     for tag in LISTS:
-        old, new = rows_of(before, tag), rows_of(day, tag)
+        old, new = rows_with_tag(before, tag), rows_with_tag(day, tag)
         for row in (added for added in new if added not in old):
             yield FileFault(day.path, day.line_of(row), tag, shown(row), f"{NO_ROW}: {before.path} has none")
         for row in (lost for lost in old if lost not in new):
@@ -37,7 +37,7 @@ def heading_differences(before: DayText, day: DayText) -> Iterator[FileFault]:
 def new_periods(before: DayText, day: DayText) -> Iterator[FileFault]:
     """The periods that the day before does not have, as faults."""
     count = len(before.head.periods)
-    for row in rows_of(day, "period")[count:]:
+    for row in rows_with_tag(day, "period")[count:]:
         yield FileFault(
             day.path, day.line_of(row), "period", shown(row), f"{NO_ROW}: {before.path} has {count} periods"
         )
@@ -49,7 +49,7 @@ def lost_period(before: DayText, day: DayText) -> FileFault | None:
     for place, period in enumerate(old):
         there = new[place] if place < len(new) else None
         if there != period:
-            line = day.line_of(rows_of(day, "period")[place]) if there else day.line_of_tag("lags")
+            line = day.line_of(rows_with_tag(day, "period")[place]) if there else day.line_of_tag("lags")
             kept = (
                 f"period {place + 1} of {before.path}, {period[0]} to {period[1]}: periods are kept, and only added to"
             )

@@ -107,7 +107,7 @@ def subject_of(i: rules.Instruction) -> str:
     return f"{i.year}: {grouped(rules.known(i.tonnes))} tonnes" if i.act == "emissions" else f"year {i.year}"
 
 
-def table(head: Sequence[str], rows: Sequence[Sequence[str]], right: Collection[str]) -> list[str]:
+def table_lines(head: Sequence[str], rows: Sequence[Sequence[str]], right: Collection[str]) -> list[str]:
     """The lines of a table. The columns of `right` stand at the right, all others at the left."""
     widths = [max(len(row[place]) for row in [head, *rows]) for place in range(len(head))]
 
@@ -139,3 +139,8 @@ def draw(name: str, help_text: str, drawing: Callable[..., list[str]], most: int
         print(f"{name}: {wrong}", file=sys.stderr)
         return 1
     return streams.write(name, "\n".join([*lines, ""]), 1)
+
+
+def as_looked_up(word: str) -> str:
+    """A name, a heading or another word as it is looked up: without capitals, and each blank in it a single one."""
+    return " ".join(word.split()).casefold()

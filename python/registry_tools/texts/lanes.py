@@ -27,7 +27,7 @@ def read_lanes(text: str) -> list[list[int]]:
     return lanes
 
 
-def columns(lanes: list[list[int]], arrows: Iterable[tuple[int, int]]) -> dict[int, int] | None:
+def columns_of_lanes(lanes: list[list[int]], arrows: Iterable[tuple[int, int]]) -> dict[int, int] | None:
     """The column of each place: behind those that it waits for, and behind the one before it in its lane. None if the
     lanes do not follow the arrows, which are pairs of a tail and a head."""
     before = [*arrows, *((first, then) for lane in lanes for first, then in zip(lane, lane[1:]))]

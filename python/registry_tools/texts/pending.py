@@ -61,10 +61,6 @@ class Waiting:
         tag, day = (ENTERED, self.entered) if self.entered else (WAITS, self.due)
         return ",".join([tag, str(self.record or ""), str(day or ""), *self.instruction.fields])
 
-    def do_row(self) -> str:
-        """The `do` row of the instruction."""
-        return ",".join(["do", *self.instruction.fields])
-
 
 @dataclass
 class PendingFile:
@@ -212,9 +208,7 @@ def must_not_be_later(file: PendingFile, report: Report, date: datetime.date) ->
             )
 
 
-def must_not_be_of_another_text(
-    file: PendingFile, day: DayText, report: Report, there: set[tuple[str, ...]]
-) -> None:
+def must_not_be_of_another_text(file: PendingFile, day: DayText, report: Report, there: set[tuple[str, ...]]) -> None:
     """Ends the command if a file was written with a text in whose place that of the day was settled, as after a slip in
     the date: what one of them entered would be done twice, or not at all."""
     made, head = file.made, day.head

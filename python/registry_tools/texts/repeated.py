@@ -27,13 +27,13 @@ class Handed:
         places: dict[str, list[str]] = {}
         waits = {own.record for own in self.waiting}
         for own in self.waiting:
-            places.setdefault(own.do_row(), []).append(
+            places.setdefault(own.instruction.row, []).append(
                 f"{own.place}, where it waits and comes into the text of its due day by itself"
             )
         for place, logged in enumerate(self.report.log):
             if logged.record not in waits:
                 where = f"{self.day.path}:{self.day.line_of_instruction(place)}, {outcome_of(logged)}"
-                places.setdefault(f"do,{','.join(logged.instruction.fields)}", []).append(where)
+                places.setdefault(logged.instruction.row, []).append(where)
         return places
 
 

@@ -7,7 +7,7 @@ ghost use Rattle.reg_book.specs.Indexes.{StandAt, index_lists};
 ghost use Rattle.reg_regions.specs.Homes.{IsHome, AreHome, AreAllHome};
 
 use crate::dealing::Deal;
-use crate::region::Indexes;
+use crate::instruction::Indexes;
 use reg_account::Account;
 use reg_base::{AccountNo, Batch};
 use reg_rules::Setting;

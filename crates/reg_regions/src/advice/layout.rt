@@ -134,7 +134,19 @@ impl Layout {
                 end = middle;
             }
         }
-        list
+        self.last_with_accounts(list)
+    }
+
+    // The list itself, or else the nearest one before it that has accounts.
+    fn last_with_accounts(&self, list: u32) -> u32 {
+        let mut last = list;
+        for _empty in 0..list {
+            if self.len(last) > 0 {
+                break;
+            }
+            last = last.saturating_sub(1);
+        }
+        last
     }
 
     // Whether a list begins with this number, or with one below it.

@@ -4,7 +4,7 @@
 ghost use Rattle.std.specs.Prelude.{◌≡◌, ◌++◌, ◌<◌, ◌≤◌, IfOk, OnOk};
 ghost use Rattle.reg_regions.specs.Lists.{joined_lists};
 
-use crate::advice::numbers::{number_or_zero, short};
+use crate::advice::numbers::{number_or_zero, raise, short};
 use reg_account::Account;
 use reg_base::NoMemory;
 use std::alloc::Global;
@@ -45,16 +45,42 @@ pub(crate) fn join_lists(
     ensures { IfOk result (λ joined. joined_lists joined.items ≡ joined_lists lists.items) }
 {
     let mut joined = Vec::with_capacity(alloc, lists.len())?;
+    let sizes = sizes_together(alloc, &lists, joins)?;
     let mut index: u32 = 0;
     for list in lists {
-        if number_or_zero(joins, index) < short(joined.len()) {
+        let region = number_or_zero(joins, index);
+        if region < short(joined.len()) {
             put_behind(&mut joined, list)?;
         } else {
-            joined.push(list)?;
+            joined.push(with_room(list, number_or_zero(&sizes, region))?)?;
         }
         index = index.saturating_add(1);
     }
     Ok(joined)
+}
+
+// How many accounts come together in each list.
+fn sizes_together(
+    alloc: Global,
+    lists: &[Vec<Account>],
+    joins: &[u32],
+) -> Result<Vec<u32>, NoMemory> {
+    let mut sizes = vec![in alloc; 0u32; lists.len()]?;
+    let mut index: u32 = 0;
+    for list in lists {
+        raise(&mut sizes, number_or_zero(joins, index), short(list.len()));
+        index = index.saturating_add(1);
+    }
+    Ok(sizes)
+}
+
+// A list with room for so many accounts, so that those that come behind it move once.
+fn with_room(list: Vec<Account>, room: u32) -> Result<Vec<Account>, NoMemory>
+    ensures { IfOk result (λ roomy. roomy.items ≡ list.items) }
+{
+    let mut list = list;
+    list.reserve((room as usize).saturating_sub(list.len()))?;
+    Ok(list)
 }
 
 // Puts accounts behind those of the last list.

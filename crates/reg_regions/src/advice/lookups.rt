@@ -7,7 +7,7 @@ ghost use Rattle.reg_rules.specs.State.{numbers};
 ghost use Rattle.reg_regions.specs.Lists.{joined_lists};
 
 use crate::advice::layout::Layout;
-use crate::region::Indexes;
+use crate::instruction::Indexes;
 use reg_account::Account;
 use reg_base::{AccountNo, Instruction, NoMemory};
 use reg_book::index_of;

@@ -1,50 +1,17 @@
 //! Regions are dealt to the deques of workers.
 
-ghost use Rattle.std.specs.Prelude.{◌≡◌, ◌+◌, ◌≤◌, [], map, vec_len, IfOk};
+ghost use Rattle.std.specs.Prelude.{◌≡◌, ◌+◌, ◌≤◌, [], All, map, vec_len, IfOk};
 ghost use Rattle.reg_claim.specs.Seats.{known, seat_table, table_id};
-ghost use Rattle.reg_regions.specs.Stealing.{first_numbers};
+ghost use Rattle.reg_deques.specs.Yards.{deques_of_pass, worker_of};
 
 use crate::running::list_region::{Cutting, ListRegion};
+use crate::running::taker::{Sharing, Taker};
 use crate::running::worker::ReadyWorker;
-use crossbeam_deque::{Stealer, Worker};
 use reg_base::NoMemory;
 use reg_claim::{ClaimTable, Seat};
+use reg_deques::{Numbered, Owner, Pass};
 use std::alloc::Global;
-
-// How many regions a deque has room for at first.
-const FIRST_CAPACITY: usize = 16;
-
-/// So many empty deques.
-///
-/// # Errors
-/// `NoMemory` if memory ran out.
-pub(crate) fn make_deques<C: Cutting>(
-    alloc: Global,
-    workers: u32,
-) -> Result<Vec<Worker<ListRegion<C>>>, NoMemory>
-    ensures { IfOk result (λ deques. vec_len deques ≡ workers) }
-{
-    let mut deques = Vec::with_capacity(alloc, workers as usize)?;
-    for _worker in 0..workers {
-        deques.push(Worker::new_fifo(alloc, FIRST_CAPACITY)?)?;
-    }
-    Ok(deques)
-}
-
-/// A stealer of each deque, in their order.
-///
-/// # Errors
-/// `NoMemory` if memory ran out.
-pub(crate) fn make_stealers<C: Cutting>(
-    alloc: Global,
-    deques: &[Worker<ListRegion<C>>],
-) -> Result<Vec<Stealer<ListRegion<C>>>, NoMemory> {
-    let mut stealers = Vec::with_capacity(alloc, deques.len())?;
-    for deque in deques {
-        stealers.push(deque.stealer()?)?;
-    }
-    Ok(stealers)
-}
+use std::marker::PhantomData;
 
 /// Deals regions to the deques, one to each in turn, the heaviest first.
 ///
@@ -52,61 +19,68 @@ pub(crate) fn make_stealers<C: Cutting>(
 /// `NoMemory` if memory ran out.
 pub(crate) fn deal_regions<C: Cutting>(
     regions: Vec<ListRegion<C>>,
-    deques: &mut [Worker<ListRegion<C>>],
+    owners: &mut [Owner<ListRegion<C>>],
 ) -> Result<(), NoMemory> {
     let mut regions = regions;
     regions.sort_unstable_by_key(|region| region.deal.places.len());
     regions.reverse();
     let mut next = 0;
     for region in regions {
-        let Some(deque) = deques.get_mut(next) else {
+        let Some(owner) = owners.get_mut(next) else {
             return Err(NoMemory);
         };
-        if deque.push(region).is_err() {
+        if owner.put(region).is_err() {
             return Err(NoMemory);
         }
-        next = (next + 1) % deques.len();
+        next = (next + 1) % owners.len();
     }
     Ok(())
 }
 
 /// Workers that have not begun, and the seat that is left.
 #[derive(Drop)]
-pub(crate) struct ReadyWorkers<C: Cutting> {
+pub(crate) struct ReadyWorkers<T: Numbered, S: Sharing> {
     pub(crate) seat: Seat,
-    pub(crate) workers: Vec<ReadyWorker<C>>,
+    pub(crate) workers: Vec<ReadyWorker<T, S>>,
 }
 
-/// A worker for each deque, with a seat of its own.
+/// A worker for each deque, with its pass at the others and a seat of its own.
 ///
 /// # Errors
 /// `NoMemory` if memory ran out.
-pub(crate) fn make_workers<C: Cutting>(
+pub(crate) fn make_workers<T: Numbered + Drop, S: Sharing>(
     alloc: Global,
     table: &ClaimTable,
     seat: Seat,
-    deques: Vec<Worker<ListRegion<C>>>,
-) -> Result<ReadyWorkers<C>, NoMemory>
-    requires table { (table_id table.now ≡ C.table) × (seat_table seat ≡ C.table) }
+    owners: Vec<Owner<T>>,
+    passes: Vec<Pass<T>>,
+) -> Result<ReadyWorkers<T, S>, NoMemory>
+    requires table { (table_id table.now ≡ S.table) × (seat_table seat ≡ S.table) }
     requires fresh { ((known seat).stake ≡ 16) × ((known seat).finished ≡ []) }
-    requires few { vec_len deques ≤ 8 }
-    ensures table { IfOk result (λ made. seat_table made.seat ≡ C.table) }
-    ensures stake { IfOk result (λ made. (known made.seat).stake + vec_len deques ≡ 16) }
+    requires few { vec_len passes ≤ 8 }
+    requires deques { All (λ p. deques_of_pass p ≡ S.deques) passes.items }
+    ensures table { IfOk result (λ made. seat_table made.seat ≡ S.table) }
+    ensures stake { IfOk result (λ made. (known made.seat).stake + vec_len passes ≡ 16) }
     ensures fresh { IfOk result (λ made. (known made.seat).finished ≡ []) }
-    ensures numbers { IfOk result (λ made. map (λ w. w.number) made.workers.items ≡ first_numbers (vec_len deques)) }
+    ensures numbers { IfOk result
+        (λ made. map (λ w. worker_of w.taker.pass) made.workers.items ≡ map worker_of passes.items) }
 {
     let mut rest = seat;
-    let mut workers = Vec::with_capacity(alloc, deques.len())?;
-    let mut number: u32 = 0;
-    for deque in deques {
+    let mut workers = Vec::with_capacity(alloc, passes.len())?;
+    let mut owners = owners.into_iter();
+    for pass in passes {
+        // Each pass has one.
+        let Some(owner) = owners.next() else {
+            return Err(NoMemory);
+        };
         let (kept, own) = table.split(rest);
         rest = kept;
-        workers.push(ReadyWorker {
-            number,
-            deque,
-            seat: own,
-        })?;
-        number = number.saturating_add(1);
+        let taker = Taker {
+            owner,
+            pass,
+            of: PhantomData,
+        };
+        workers.push(ReadyWorker { taker, seat: own })?;
     }
     Ok(ReadyWorkers {
         seat: rest,

@@ -5,21 +5,19 @@ ghost use Rattle.reg_regions.specs.Stealing.{region_opening};
 
 use crate::dealing::Deal;
 use reg_account::Account;
+use reg_deques::Numbered;
 use std::marker::{Brand, PhantomData};
 
-/// What the regions of a call begin with and have to do, and which claim table they have. It has no code. What lies in
-/// a deque, and what a thread gives back, is known by its type alone, so its type names them.
+/// What the regions of a call begin with and have to do. It has no code. What lies in a deque is known by its type
+/// alone, so its type names them.
 pub(crate) trait Cutting {
     ghost use Rattle.std.specs.Prelude.{List};
-    ghost use Rattle.atomic_table.specs.Seated.{TableId};
     ghost use Rattle.reg_rules.specs.State.{State};
     ghost use Rattle.reg_regions.specs.declared.dealing.Deal.{Deal};
 
     ghost openings: { List State };
 
     ghost deals: { List Deal };
-
-    ghost table: { TableId };
 }
 
 /// Those that a caller picks from its own arguments.
@@ -29,8 +27,6 @@ impl Cutting for Brand {
     ghost openings = { [] };
 
     ghost deals = { [] };
-
-    ghost table = { record { words = 0; slots = 0; views_name = 0; atom = 0; block = 0; offset = 0; slot_names = [] } };
 }
 
 /// A list of accounts that is a region, as it was when the lists were dealt out, with what it has to do.
@@ -44,4 +40,8 @@ pub(crate) struct ListRegion<C: Cutting> {
     pub(crate) ghost within: { (1 ≤ number) × (number ≤ length C.openings) },
     pub(crate) ghost opening: { accounts.items ≡ region_opening C.openings number },
     pub(crate) ghost dealt: { slice_get C.deals (number - 1) ≡ Some deal },
+}
+
+impl<C: Cutting> Numbered for ListRegion<C> {
+    ghost number = { λ r. r.number };
 }

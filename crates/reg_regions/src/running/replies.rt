@@ -5,7 +5,7 @@ ghost use Rattle.reg_regions.specs.Dealing.{put_all};
 ghost use Rattle.reg_regions.specs.Homes.{IsPlaceUpTo};
 ghost use Rattle.reg_regions.specs.Settling.{places_in};
 
-use crate::region::Placed;
+use crate::instruction::Placed;
 use reg_base::{NoMemory, Refusal};
 use reg_rules::Reply;
 use std::alloc::Global;

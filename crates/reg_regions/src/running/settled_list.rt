@@ -1,6 +1,6 @@
 //! A region that came back.
 
-use crate::region::Placed;
+use crate::instruction::Placed;
 use reg_account::Account;
 
 /// A region whose instructions were carried out.

@@ -1,21 +1,53 @@
 //! The instructions of one region, carried out on its accounts, and who did so.
 
-ghost use Rattle.std.specs.Prelude.{◌≡◌, ◌+◌, ◌≤◌, [], ◌∷◌, ◌++◌, IfOk, OnOk};
+ghost use Rattle.std.specs.Prelude.{◌≡◌, ◌+◌, ◌≤◌, [], ◌∷◌, ◌++◌, ℕ, List, Bool, IfOk, OnOk};
 ghost use Rattle.reg_rules.specs.State.{numbers};
 ghost use Rattle.reg_rules.specs.Laws.{IsReady};
 ghost use Rattle.reg_base.specs.Rules.{AreRules};
 ghost use Rattle.reg_book.specs.Indexes.{index_lists};
 ghost use Rattle.reg_regions.specs.Homes.{IsHome, AreHome};
-ghost use Rattle.reg_regions.specs.Settling.{IsCarriedOut, IsRun, places_in};
+ghost use Rattle.reg_regions.specs.Settling.{IsCarriedOut, IsRun, kept, places_in};
 
 use crate::gate::PlaceGate;
-use crate::region::{Indexes, Placed};
+use crate::instruction::{Indexes, Placed};
 use reg_account::Account;
 use reg_base::{Batch, NoMemory, RecordNo};
 use reg_rules::{Reply, Setting, execute_at, step_laws};
 use std::alloc::Global;
 
-/// What a worker carried out. Only `carry_out` puts a place into it, with the instruction that it carries out: so a
+/// The place of an instruction that was carried out. Only `carry_out` makes one.
+#[derive(Drop)]
+pub(crate) struct Carried {
+    place: u32,
+}
+
+/// What a worker notes of what it carries out: its shift, or nothing.
+pub(crate) trait Notes: Drop {
+    // The number of the worker.
+    ghost worker: { Self → ℕ };
+
+    // Whether places are kept.
+    ghost keeps: { Bool };
+
+    // Those that are.
+    ghost places: { Self → List ℕ };
+
+    /// The notes of a worker that carried out nothing yet.
+    fn begin(alloc: Global, number: u32) -> Self
+        ensures worker { worker result ≡ number }
+        ensures empty { places result ≡ [] };
+
+    /// The number of the worker, counted from 0.
+    fn number(&self) -> u32
+        ensures { result ≡ worker self.now };
+
+    /// Notes a place behind the others, if places are kept.
+    fn note(&mut self, carried: Carried) -> Result<(), NoMemory>
+        ensures worker { worker self.new ≡ worker self.old }
+        ensures noted { OnOk result (places self.new ≡ places self.old ++ kept keeps (carried.place ∷ [])) };
+}
+
+/// What a worker carried out. A place comes into it by `note` alone, which takes what only `carry_out` makes: so a
 /// shift can't be made of numbers, none can be made of two, and its places stand in the order in which the worker
 /// carried them out.
 #[derive(Debug, Drop)]
@@ -38,25 +70,68 @@ impl WorkShift {
     {
         &self.places
     }
+}
 
-    // The shift of a worker that carried out nothing yet.
-    pub(crate) fn begin(alloc: Global, worker: u32) -> WorkShift
-        ensures worker { result.worker ≡ worker }
-        ensures empty { result.places.items ≡ [] }
-    {
+impl Notes for WorkShift {
+    ghost use Rattle.std.specs.Prelude.{true};
+
+    ghost worker = { λ s. s.worker };
+
+    ghost keeps = { true };
+
+    ghost places = { λ s. s.places.items };
+
+    fn begin(alloc: Global, number: u32) -> WorkShift {
         WorkShift {
-            worker,
+            worker: number,
             places: Vec::new(alloc),
         }
+    }
+
+    fn number(&self) -> u32 {
+        self.worker
+    }
+
+    fn note(&mut self, carried: Carried) -> Result<(), NoMemory> {
+        self.places.push(carried.place)?;
+        Ok(())
+    }
+}
+
+/// The number of a worker that notes nothing.
+#[derive(Drop)]
+pub(crate) struct NoShift {
+    worker: u32,
+}
+
+impl Notes for NoShift {
+    ghost use Rattle.std.specs.Prelude.{false};
+
+    ghost worker = { λ s. s.worker };
+
+    ghost keeps = { false };
+
+    ghost places = { λ _. [] };
+
+    fn begin(_alloc: Global, number: u32) -> NoShift {
+        NoShift { worker: number }
+    }
+
+    fn number(&self) -> u32 {
+        self.worker
+    }
+
+    fn note(&mut self, _carried: Carried) -> Result<(), NoMemory> {
+        Ok(())
     }
 }
 
 /// Carries out the instructions at these places, one after another, on accounts that have those that they touch at
-/// these indexes. The worker whose shift it is passes the gate before each instruction.
+/// these indexes. The worker whose notes these are passes the gate before each instruction.
 ///
 /// # Errors
 /// `NoMemory` if memory ran out.
-pub(crate) fn settle_gated<G: PlaceGate>(
+pub(crate) fn settle_gated<N: Notes, G: PlaceGate>(
     alloc: Global,
     setting: &Setting,
     batch: &Batch,
@@ -64,22 +139,21 @@ pub(crate) fn settle_gated<G: PlaceGate>(
     indexes: &[Indexes],
     accounts: &mut [Account],
     gate: &G,
-    shift: &mut WorkShift,
+    notes: &mut N,
 ) -> Result<Vec<Placed>, NoMemory>
     requires rules { AreRules setting.now.rules }
     requires ready { IsReady (batch.now.base + 1) accounts.old }
     requires home { AreHome setting.now batch.now (numbers accounts.old) places.now (index_lists indexes.now) }
     ensures run { IfOk result (λ replies. IsRun setting.now batch.now accounts.old accounts.new replies.items) }
     ensures places { IfOk result (λ replies. places_in replies.items ≡ places.now) }
-    ensures worker { shift.new.worker ≡ shift.old.worker }
-    ensures shift { IfOk result
-        (λ replies. shift.new.places.items ≡ shift.old.places.items ++ places_in replies.items) }
+    ensures worker { N.worker notes.new ≡ N.worker notes.old }
+    ensures noted { IfOk result
+        (λ replies. N.places notes.new ≡ N.places notes.old ++ kept N.keeps (places_in replies.items)) }
 {
     step_laws();
     let mut replies = Vec::with_capacity(alloc, places.len())?;
-    shift.places.reserve(places.len())?;
     for (index, place) in places.iter().enumerate() {
-        gate.enter(shift.worker, *place);
+        gate.enter(notes.number(), *place);
         let reply = carry_out(
             alloc,
             setting,
@@ -87,7 +161,7 @@ pub(crate) fn settle_gated<G: PlaceGate>(
             *place,
             &indexes[index],
             accounts,
-            shift,
+            notes,
         )?;
         push_reply(&mut replies, *place, reply)?;
     }
@@ -103,22 +177,22 @@ fn push_reply(replies: &mut Vec<Placed>, place: u32, reply: Reply) -> Result<(),
     Ok(())
 }
 
-// Carries out the instruction at a place, and notes it in the worker's shift. Its accounts are at these indexes.
-fn carry_out(
+// Carries out the instruction at a place, and notes it. Its accounts are at these indexes.
+fn carry_out<N: Notes>(
     alloc: Global,
     setting: &Setting,
     batch: &Batch,
     place: u32,
     indexes: &Indexes,
     accounts: &mut [Account],
-    shift: &mut WorkShift,
+    notes: &mut N,
 ) -> Result<Reply, NoMemory>
     requires rules { AreRules setting.now.rules }
     requires home { IsHome setting.now batch.now (numbers accounts.old) place indexes.now.items }
     requires ready { IsReady (batch.now.base + place) accounts.old }
     ensures made { IfOk result (λ reply. IsCarriedOut setting.now batch.now place accounts.old accounts.new reply) }
-    ensures worker { shift.new.worker ≡ shift.old.worker }
-    ensures noted { OnOk result (shift.new.places.items ≡ shift.old.places.items ++ place ∷ []) }
+    ensures worker { N.worker notes.new ≡ N.worker notes.old }
+    ensures noted { OnOk result (N.places notes.new ≡ N.places notes.old ++ kept N.keeps (place ∷ [])) }
 {
     step_laws();
     setting.day.get();
@@ -136,6 +210,6 @@ fn carry_out(
         accounts,
         indexes.as_slice(),
     )?;
-    shift.places.push(place)?;
+    notes.note(Carried { place })?;
     Ok(reply)
 }

@@ -7,13 +7,14 @@ ghost use Rattle.reg_claim.specs.Seats.{known, seat_table, table_id, places};
 ghost use Rattle.reg_facts.specs.Counting.{times, once};
 ghost use Rattle.reg_regions.specs.Dealing.{put_all};
 ghost use Rattle.reg_regions.specs.Homes.{IsPlaceUpTo};
-ghost use Rattle.reg_regions.specs.Stealing.{numbers_of, settled_places, shift_workers, times_in_shifts};
+ghost use Rattle.reg_regions.specs.Settling.{kept};
+ghost use Rattle.reg_regions.specs.Stealing.{numbers_of, settled_places, times_noted};
 
 use crate::running::SettledLists;
-use crate::running::list_region::Cutting;
 use crate::running::replies::put_replies;
 use crate::running::settled_list::SettledList;
-use crate::running::shift::WorkShift;
+use crate::running::shift::Notes;
+use crate::running::taker::Sharing;
 use crate::running::worker::BusyWorker;
 use reg_base::NoMemory;
 use reg_claim::{ClaimTable, Seat};
@@ -22,47 +23,47 @@ use std::alloc::Global;
 
 /// What all workers did.
 #[derive(Drop)]
-pub(crate) struct Done {
+pub(crate) struct Done<N> {
     /// The regions, worker by worker, each in the order in which they were settled.
     pub(crate) settled: Vec<SettledList>,
-    /// Who carried out what, from worker 0 on.
-    pub(crate) shifts: Vec<WorkShift>,
+    /// What each worker noted, from worker 0 on.
+    pub(crate) notes: Vec<N>,
 }
 
 /// Joins the seats of all workers and closes the table: each region was settled once. Answers what they did.
 ///
 /// # Errors
 /// `NoMemory` if memory ran out.
-pub(crate) fn count_up<C: Cutting>(
+pub(crate) fn count_up<S: Sharing, N: Notes>(
     alloc: Global,
     count: u32,
     table: ClaimTable,
     seat: Seat,
-    workers: Vec<BusyWorker<C>>,
-) -> Result<Done, NoMemory>
-    requires count { count ≡ length C.openings }
-    requires table { (table_id table ≡ C.table) × (places table ≡ length C.openings) × (seat_table seat ≡ C.table) }
+    workers: Vec<BusyWorker<S, N>>,
+) -> Result<Done<N>, NoMemory>
+    requires table { (table_id table ≡ S.table) × (places table ≡ count) × (seat_table seat ≡ S.table) }
     requires stake { (known seat).stake + vec_len workers ≡ 16 }
     requires fresh { (known seat).finished ≡ [] }
     ensures settled { IfOk result (λ done. done.settled.items ≡ flat_map (λ w. w.settled.items) workers.items) }
     ensures each { IfOk result
-        (λ done. (p : ℕ) → times p (numbers_of done.settled.items) ≡ once (length C.openings) p) }
-    ensures workers { IfOk result (λ done. shift_workers done.shifts.items ≡ map (λ w. w.shift.worker) workers.items) }
-    ensures times { IfOk result
-        (λ done. (p : ℕ) → times_in_shifts p done.shifts.items ≡ times p (settled_places done.settled.items)) }
+        (λ done. (p : ℕ) → times p (numbers_of done.settled.items) ≡ once count p) }
+    ensures workers { IfOk result
+        (λ done. map N.worker done.notes.items ≡ map (λ w. N.worker w.notes) workers.items) }
+    ensures times { IfOk result (λ done. (p : ℕ) → times_noted N.places p done.notes.items
+        ≡ times p (kept N.keeps (settled_places done.settled.items))) }
 {
     let mut rest = seat;
     let mut settled = Vec::with_capacity(alloc, count as usize)?;
-    let mut shifts = Vec::with_capacity(alloc, workers.len())?;
+    let mut all = Vec::with_capacity(alloc, workers.len())?;
     for worker in workers {
         let BusyWorker {
-            shift,
+            notes,
             seat: theirs,
             settled: own,
             ..
         } = worker;
         rest = table.join(rest, theirs);
-        shifts.push(shift)?;
+        all.push(notes)?;
         append(&mut settled, own)?;
     }
     let tally = table.close(rest);
@@ -70,7 +71,10 @@ pub(crate) fn count_up<C: Cutting>(
     if tally.done != count {
         return Err(NoMemory);
     }
-    Ok(Done { settled, shifts })
+    Ok(Done {
+        settled,
+        notes: all,
+    })
 }
 
 fn append(settled: &mut Vec<SettledList>, own: Vec<SettledList>) -> Result<(), NoMemory>
@@ -99,21 +103,21 @@ fn put_in_order(settled: &mut [SettledList])
 }
 
 /// The accounts of settled regions, one region after another, their replies, each put at its place among these, and
-/// these shifts.
+/// these notes.
 ///
 /// # Errors
 /// `NoMemory` if memory ran out.
-pub(crate) fn take_apart(
+pub(crate) fn take_apart<N: Notes>(
     alloc: Global,
     settled: Vec<SettledList>,
-    shifts: Vec<WorkShift>,
+    notes: Vec<N>,
     slots: Vec<Reply>,
-) -> Result<SettledLists, NoMemory>
+) -> Result<SettledLists<N>, NoMemory>
     requires { All (IsPlaceUpTo (length slots.items)) (settled_places settled.items) }
     ensures lists { IfOk result (λ all. all.lists.items ≡ map (λ s. s.accounts) settled.items) }
     ensures replies { IfOk result
         (λ all. all.replies.items ≡ put_all (flat_map (λ s. s.replies.items) settled.items) slots.items) }
-    ensures shifts { IfOk result (λ all. all.shifts ≡ shifts) }
+    ensures notes { IfOk result (λ all. all.notes ≡ notes) }
 {
     let mut lists = Vec::with_capacity(alloc, settled.len())?;
     let mut replies = slots;
@@ -129,6 +133,6 @@ pub(crate) fn take_apart(
     Ok(SettledLists {
         lists,
         replies,
-        shifts,
+        notes,
     })
 }

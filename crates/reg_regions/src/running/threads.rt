@@ -2,14 +2,17 @@
 
 ghost use Rattle.std.specs.Prelude.{◌≡◌, Ok, map, length, All, IfOk};
 ghost use Rattle.reg_claim.specs.Seats.{table_id, places};
+ghost use Rattle.reg_deques.specs.Yards.{deques, worker_of};
 ghost use Rattle.reg_regions.specs.Stealing.{IsGround, AreSettled};
 
 use crate::gate::PlaceGate;
 use crate::running::list_region::{Cutting, ListRegion};
+use crate::running::shift::Notes;
+use crate::running::taker::Sharing;
 use crate::running::worker::{BusyWorker, ReadyWorker, work};
-use crossbeam_deque::Stealer;
 use reg_base::{Batch, NoMemory};
 use reg_claim::ClaimTable;
+use reg_deques::Yard;
 use reg_rules::Setting;
 use std::alloc::Global;
 use std::thread;
@@ -20,42 +23,53 @@ use std::thread::Threads;
 ///
 /// # Errors
 /// `NoMemory` if memory ran out. All threads have ended then.
-pub(crate) fn run_all<C: Cutting + Send + Sync, R: Threads + Sync, G: PlaceGate>(
+pub(crate) fn run_all<
+    C: Cutting + Send + Sync,
+    S: Sharing + Send + Sync,
+    N: Notes + Send,
+    R: Threads + Sync,
+    G: PlaceGate,
+>(
     rt: &R,
     alloc: Global,
     setting: &Setting,
     batch: &Batch,
     table: &ClaimTable,
-    stealers: &[Stealer<ListRegion<C>>],
+    yard: &Yard<ListRegion<C>>,
     gate: &G,
-    workers: Vec<ReadyWorker<C>>,
-) -> Result<Vec<BusyWorker<C>>, NoMemory>
+    workers: Vec<ReadyWorker<ListRegion<C>, S>>,
+) -> Result<Vec<BusyWorker<S, N>>, NoMemory>
     requires ground { IsGround setting.now batch.now C.openings C.deals }
-    requires table { (table_id table.now ≡ C.table) × (places table.now ≡ length C.openings) }
-    ensures numbers { IfOk result (λ all. map (λ w. w.shift.worker) all.items ≡ map (λ w. w.number) workers.items) }
+    requires table { (table_id table.now ≡ S.table) × (places table.now ≡ length C.openings) }
+    requires yard { deques yard.now ≡ S.deques }
+    ensures numbers { IfOk result
+        (λ all. map (λ w. N.worker w.notes) all.items ≡ map (λ w. worker_of w.taker.pass) workers.items) }
     ensures settled { IfOk result
         (λ all. All (λ w. AreSettled setting.now batch.now C.openings C.deals w.settled.items) all.items) }
 {
     let ended = thread::map_vec(
         rt,
         workers,
-        &|worker: ReadyWorker<C>| -> Result<BusyWorker<C>, NoMemory>
-            requires { IsGround setting.now batch.now C.openings C.deals × (table_id table.now ≡ C.table)
-                × (places table.now ≡ length C.openings) }
-            ensures number { IfOk result (λ w. w.shift.worker ≡ worker.number) }
+        &|worker: ReadyWorker<ListRegion<C>, S>| -> Result<BusyWorker<S, N>, NoMemory>
+            requires { IsGround setting.now batch.now C.openings C.deals × (table_id table.now ≡ S.table)
+                × (places table.now ≡ length C.openings) × (deques yard.now ≡ S.deques) }
+            ensures number { IfOk result (λ w. N.worker w.notes ≡ worker_of worker.taker.pass) }
             ensures settled { IfOk result
                 (λ w. AreSettled setting.entry.now batch.entry.now C.openings C.deals w.settled.items) }
-        { work(alloc, setting, batch, table, stealers, gate, worker) },
+        {
+            let (busy, _taker) = work(alloc, setting, batch, table, yard, gate, worker)?;
+            Ok(busy)
+        },
     )?;
     let all = all_ended(alloc, ended)?;
     Ok(all)
 }
 
 // What all workers answered, if none of them lacked memory.
-fn all_ended<C: Cutting>(
+fn all_ended<S: Sharing, N: Notes>(
     alloc: Global,
-    ended: Vec<Result<BusyWorker<C>, NoMemory>>,
-) -> Result<Vec<BusyWorker<C>>, NoMemory>
+    ended: Vec<Result<BusyWorker<S, N>, NoMemory>>,
+) -> Result<Vec<BusyWorker<S, N>>, NoMemory>
     ensures { IfOk result (λ all. map Ok all.items ≡ ended.items) }
 {
     let mut all = Vec::with_capacity(alloc, ended.len())?;

@@ -12,16 +12,18 @@ statements, totals, figures, the plan, and what the text itself says.
 from __future__ import annotations
 
 from registry import native
-from registry.native import Cause, Fault, NoAccount, Text, engine_version, refusal_sentence, refusal_word
+from registry.native import (
+    Cause, Fault, NoAccount, NoNextDate, Text, engine_version, refusal_sentence, refusal_word,
+)  # fmt: skip
 from registry.rows import (
-    Account, Act, Determined, Done, Holding, Instruction, LogRow, Refused, Retired, Share, Task, Totals,
+    Account, Act, Determined, Done, Holding, Instruction, LogRow, Refused, RefusedRow, Retired, Share, Task, Totals,
 )  # fmt: skip
 from registry.texts import Day, Log, Report, Statement, refusals
 
 __all__ = [
     "Account", "Act", "Cause", "Day", "Determined", "Done", "Fault", "Holding", "Instruction", "Log", "LogRow",
-    "NoAccount", "Refused", "Report", "Retired", "Share", "Statement", "Task", "Totals", "engine_version",
-    "refusal_sentence", "refusal_word", "refusals", "settle",
+    "NoAccount", "NoNextDate", "Refused", "RefusedRow", "Report", "Retired", "Share", "Statement", "Task", "Totals",
+    "engine_version", "refusal_sentence", "refusal_word", "refusals", "settle",
 ]  # fmt: skip
 
 # The version of the engine that this package was made with.

@@ -6,6 +6,7 @@ from __future__ import annotations
 
 import ctypes
 import os
+from datetime import date
 from enum import IntEnum
 from pathlib import Path
 from typing import Any, Callable, Optional, Union
@@ -13,7 +14,7 @@ from typing import Any, Callable, Optional, Union
 # The version of the library that this package was written for.
 VERSION = 1
 LIBRARY, OF_SYSTEM = "libregistry.so", "libregistry.so.1"
-DONE, NO_ACCOUNT, FAULT, NO_MEMORY = 0, 2, 3, 4
+DONE, NO_ACCOUNT, FAULT, NO_MEMORY, NO_DATE = 0, 2, 3, 4, 6
 # The library takes account numbers of 32 bits: a larger number is that of no account.
 MOST_NUMBER = 2**32 - 1
 
@@ -60,6 +61,10 @@ class NoAccount(LookupError):
         return f"no such account: {self.account}"
 
 
+class NoNextDate(ValueError):
+    """A date that can't be that of the next day: it is no later one, or not one of a day text."""
+
+
 class Answer(ctypes.Structure):
     """`struct registry_answer` of registry.h."""
 
@@ -89,7 +94,8 @@ _ROOM = [ctypes.c_void_p, ctypes.c_size_t]
 
 
 def _function(name: str, *parameters: Any) -> Callable[..., Answer]:
-    """A function of the library, with the types of its parameters behind the day text and before the room."""
+    """A function of the library, with the types of its parameters behind the day text and before the room. It is looked
+    up when it is asked: an older library may not have it, and settles all the same."""
     function: Any = getattr(_library, f"registry_{name}")
     function.restype, function.argtypes = Answer, [*_DAY, *parameters, *_ROOM]
     call: Callable[..., Answer] = function
@@ -105,6 +111,8 @@ def _ask(call: Callable[[ctypes.Array[ctypes.c_char]], Answer], room: int, accou
             raise Fault(answer.row, Cause(answer.cause))
         if answer.status == NO_ACCOUNT:
             raise NoAccount(account or 0)
+        if answer.status == NO_DATE:
+            raise NoNextDate("the next day is later than the day, and a date of a day text")
         if answer.status == NO_MEMORY:
             raise MemoryError("the registry library ran out of memory")
         if answer.length <= room:
@@ -125,10 +133,8 @@ def bytes_of(day: Text) -> bytes:
 
 
 def _command(name: str) -> Callable[[Text], bytes]:
-    call = _function(name)
-
     def run(day: Text) -> bytes:
-        text = bytes_of(day)
+        text, call = bytes_of(day), _function(name)
         return _ask(lambda room: call(text, len(text), room, len(room)), 2 * len(text) + 4096)
 
     return run
@@ -139,21 +145,25 @@ attempt = _command("try")
 plan = _command("plan")
 figures = _command("figures")
 totals = _command("totals")
-_statement = _function("statement", ctypes.c_uint32)
+statements = _command("statements")
 
 
 def statement(day: Text, account: int) -> bytes:
     text = bytes_of(day)
     # (any other number is asked for as 0, which no account has: a fault of the text is told first, as always)
-    number = account if 0 <= account <= MOST_NUMBER else 0
-    return _ask(lambda room: _statement(text, len(text), number, room, len(room)), len(text) + 4096, account)
+    number, call = account if 0 <= account <= MOST_NUMBER else 0, _function("statement", ctypes.c_uint32)
+    return _ask(lambda room: call(text, len(text), number, room, len(room)), len(text) + 4096, account)
+
+
+def next_day(day: Text, on: date) -> bytes:
+    text, named, call = bytes_of(day), on.isoformat().encode(), _function("next", *_DAY)
+    return _ask(lambda room: call(text, len(text), named, len(named), room, len(room)), len(text) + 4096)
 
 
 def _words(name: str, *parameters: Any) -> Callable[..., str]:
     """A function of the library that tells words, whatever it is asked."""
 
     def told(*asked: int) -> str:
-        # (looked up when it is asked: an older library does not have it, and settles all the same)
         function: Any = getattr(_library, f"registry_{name}")
         function.restype, function.argtypes = Answer, [*parameters, *_ROOM]
         call: Callable[..., Answer] = function

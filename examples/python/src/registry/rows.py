@@ -7,6 +7,7 @@ from enum import Enum
 from typing import Any, Optional, Sequence, Union
 
 from registry import native
+from registry.advice import advice_for
 
 
 class Act(Enum):
@@ -120,6 +121,11 @@ class Refused:
         """Why this check refuses an instruction, in a sentence of the engine."""
         return native.refusal_sentence(self.code)
 
+    @property
+    def what_to_do(self) -> str:
+        """What to do about it."""
+        return advice_for(self.code)
+
 
 @dataclass(frozen=True)
 class LogRow:
@@ -134,15 +140,23 @@ class LogRow:
     def is_done(self) -> bool:
         return isinstance(self.outcome, Done)
 
-    @classmethod
-    def of(cls, row: str) -> LogRow:
+    @staticmethod
+    def of(row: str) -> LogRow:
         _, record, day, *rest = row.split(",")
         # (no field of an act is one of these words)
         end = next(place for place, value in enumerate(rest) if value in ("done", "refused"))
         outcome, behind = rest[end], rest[end + 1 :]
-        instruction = Instruction.of(rest[:end])
-        made: Union[Done, Refused] = _done(behind) if outcome == "done" else Refused(int(behind[0]), behind[1])
-        return cls(int(record), date.fromisoformat(day), instruction, made)
+        number, settled, instruction = int(record), date.fromisoformat(day), Instruction.of(rest[:end])
+        if outcome == "done":
+            return LogRow(number, settled, instruction, _done(behind))
+        return RefusedRow(number, settled, instruction, Refused(int(behind[0]), behind[1]))
+
+
+@dataclass(frozen=True)
+class RefusedRow(LogRow):
+    """A row of the log whose instruction was refused."""
+
+    outcome: Refused
 
 
 def _done(fields: Sequence[str]) -> Done:

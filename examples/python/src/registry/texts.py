@@ -9,11 +9,13 @@ from io import BytesIO, TextIOWrapper
 from typing import TYPE_CHECKING, Any, Iterable, Iterator, Sequence, Union, overload
 
 from registry import native
-from registry.rows import Account, Determined, Holding, Instruction, LogRow, Refused, Task, Totals
+from registry.rows import Account, Determined, Holding, Instruction, LogRow, Refused, RefusedRow, Task, Totals
 
 if TYPE_CHECKING:
     import pandas  # type: ignore[import]
 
+# How a statement ends.
+_END = b"\nend\n"
 # The byte order mark, which may stand before a day text.
 _MARK = b"\xef\xbb\xbf"
 
@@ -65,8 +67,8 @@ class Log(Sequence[LogRow]):
     def __len__(self) -> int:
         return len(self._lines)
 
-    def refused(self) -> Iterator[LogRow]:
-        return (row for row in self if not row.is_done)
+    def refused(self) -> Iterator[RefusedRow]:
+        return (row for row in self if isinstance(row, RefusedRow))
 
     def columns(self) -> Iterator[dict[str, Any]]:
         """Simple values by the columns of `./day log`: once for each instruction, and of a distribution once for each
@@ -181,6 +183,14 @@ class Day:
         """Raises `NoAccount` if the day has no such account."""
         return Statement(native.statement(self.text, account))
 
+    def statements(self) -> Iterator[Statement]:
+        """The statements of all accounts, by rising number, after one settlement."""
+        text, start = native.statements(self.text), 0
+        while start < len(text):
+            end = text.index(_END, start) + len(_END)
+            yield Statement(text[start:end])
+            start = end
+
     def totals(self) -> dict[str, Totals]:
         """What all accounts together hold, have surrendered and have deleted after the day, by kind of allowance."""
         return _totals(native.totals(self.text))
@@ -189,6 +199,11 @@ class Day:
         """The determined compliance figures after the day."""
         rows = [row for row in _rows(native.figures(self.text)) if row[0] == "determined"]
         return (Determined(int(account), int(year), int(figure)) for _, account, year, figure in rows)
+
+    def next_day(self, on: date) -> bytes:
+        """The text of the next day up to its instructions: its `do` rows, if it has some, and the row `end` go behind
+        it. Raises `NoNextDate` if this date is not later than the day."""
+        return native.next_day(self.text, on)
 
     def plan(self) -> Iterator[Task]:
         """Which instructions must wait for which others."""

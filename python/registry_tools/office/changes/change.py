@@ -22,7 +22,9 @@ from typing import Iterator
 from registry_tools import streams, tables
 from registry_tools.errors import FOUND, WordsFault
 from registry_tools.notes import LOOK, Notes
-from registry_tools.office import next as next_day, approvals, composing, folder, handed, labels, naming, words
+from registry_tools.office import (
+    awaited, composing, folder, handed, handed_files, labels, naming, next as next_day, words,
+)  # fmt: skip
 from registry_tools.office.changes import edits
 from registry_tools.office.changes.edits import ADD, DROP, OPEN, PUT, Edit, EditFault
 from registry_tools.office.composing import NextDay
@@ -189,7 +191,7 @@ def run(said: argparse.Namespace) -> int:
         composed = composing.compose(office, handed_in.until(date), date)
         lags = composed.day(office.next_folder / NEXT).head.lags
         made = edits_of(said, lags, labels.of_folder(office.path))
-        return show(office, handed_in, composed, made, said.yes, who, why)
+        return show_and_keep(office, handed_in, composed, made, said.yes, who, why)
 
 
 def on_paths(said: argparse.Namespace) -> int:
@@ -217,7 +219,8 @@ def account_differences(before: dict[int, Block], after: dict[int, Block]) -> It
     """The rows of accounts that went and came, each with its account."""
     for number, block in after.items():
         old = before.get(number)
-        yield from (f"{number}: {difference}" for difference in edits.differences(old.rows if old else [], block.rows))
+        rows = edits.rows_gone_and_come(old.rows if old else [], block.rows)
+        yield from (f"{number}: {row}" for row in rows)
 
 
 @dataclass
@@ -232,7 +235,7 @@ class Difference:
 
     def rows(self) -> list[str]:
         """The rows that go and come, those of the rules first."""
-        rules = edits.differences(self.before.heading, self.after.heading)
+        rules = edits.rows_gone_and_come(self.before.heading, self.after.heading)
         return [*rules, *account_differences(self.before.book, self.after.book)]
 
 
@@ -242,7 +245,7 @@ def look_at(handed_in: HandedIn, composed: NextDay, office: Office, made: list[E
     date, before = composed.date, composed.day(office.next_folder / NEXT)
     content = handed.text_of_rows([edit.row() for edit in made])
     try:
-        part = handed.put(handed_in, handed.EDITS, content, len(made), why, who)
+        part = handed_files.put(handed_in, handed.EDITS, content, len(made), why, who)
         changed = composing.compose(office, handed_in.until(date), date)
     except EditFault as fault:
         # (it has no place yet)
@@ -254,7 +257,7 @@ def look_at(handed_in: HandedIn, composed: NextDay, office: Office, made: list[E
     return difference
 
 
-def show(
+def show_and_keep(
     office: Office, handed_in: HandedIn, composed: NextDay, made: list[Edit], counts: bool, who: str, why: str
 ) -> int:
     """Shows the difference, looks whether the next day can have it, and keeps it if it counts."""
@@ -269,7 +272,7 @@ def show(
     if counts:
         folder.tell_left("handed in", left)
         print(f"handed in for {composed.date}: {handed.places(difference.part.start, difference.part.end)}")
-        approvals.tell_new(office, [difference.part])
+        awaited.tell_new(office, [difference.part])
         return 0
     office.handed_in().remove_unnamed()
     print(f"this would be changed for {composed.date}; nothing is, without --yes")

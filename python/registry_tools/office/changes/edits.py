@@ -229,6 +229,6 @@ def drop_rule(edit: Edit, rows: list[str]) -> list[str]:
 # What is shown.
 
 
-def differences(before: list[str], after: list[str]) -> list[str]:
+def rows_gone_and_come(before: list[str], after: list[str]) -> list[str]:
     """The rows that went and those that came, each with its sign."""
     return [change.words for change in changes.rows_changed(None, before, after)]

@@ -8,9 +8,9 @@ from pathlib import Path
 from typing import Iterator
 
 from registry_tools import showing, tables
-from registry_tools.office import files, folder, handed, past
+from registry_tools.office import files, folder, handed_files, handed_journal, past
 from registry_tools.office.folder import Office
-from registry_tools.office.handed import CHANGES, EDITS, HandedIn, Part
+from registry_tools.office.handed import CHANGES, EDITS, Item
 from registry_tools.office.journal import FILES
 from registry_tools.office.past import Pair
 from registry_tools.showing import Cell
@@ -45,31 +45,39 @@ def changes_of_pairs(pairs: list[Pair]) -> Iterator[list[Cell]]:
 
 def changes_of(office: Office) -> Iterator[list[Cell]]:
     """The changes of a folder, those for the next day last. Raises FileFault if a file was changed."""
+    return (change_row(day, item) for day, item in items_of(office))
+
+
+def items_of(office: Office) -> Iterator[tuple[str, Item]]:
+    """The same as they were handed in, each with its day."""
     for event in office.journal.filed():
         for key in past.OF_CHANGES:
             past.as_filed(office, event, key)
-        yield from changes_of_day(office.day_folder(event.date), str(event.date))
-    there: HandedIn = office.handed_in()
-    for item in there.items(CHANGES, EDITS):
-        yield row_of(NEXT, item.part, item.rows)
+        yield from ((str(event.date), item) for item in items_of_day(office.day_folder(event.date)))
+    yield from ((NEXT, item) for item in office.handed_in().items(CHANGES, EDITS))
 
 
 def changes_of_day(path: Path, date: str) -> Iterator[list[Cell]]:
     """The changes before a settled day, by the folder that has its files."""
-    handed_path = path / FILES["handed"]
-    filed = handed.from_text(path, handed_path, files.bytes_in(handed_path))
+    return (change_row(date, item) for item in items_of_day(path))
+
+
+def items_of_day(path: Path) -> Iterator[Item]:
+    """The same as they were handed in."""
+    filed = handed_journal.read_journal(path / FILES["handed"])
     left = {
-        kind: handed.items_of_text(path / FILES[kind], kind, files.bytes_in(path / FILES[kind]))
+        kind: handed_files.items_of_text(path / FILES[kind], kind, files.bytes_in(path / FILES[kind]))
         for kind in (CHANGES, EDITS)
     }
     gone = {taking.place for taking in filed.taken}
     for part in filed.parts:
         if part.kind in left:
-            for _ in range(sum(place not in gone for place in range(part.start, part.end))):
-                yield row_of(date, part, handed.next_item(left[part.kind], path / FILES[part.kind]))
+            for place in (place for place in range(part.start, part.end) if place not in gone):
+                yield Item(place, part, handed_files.next_item(left[part.kind], path / FILES[part.kind]), [])
 
 
-def row_of(day: str, part: Part, rows: list[str]) -> list[Cell]:
+def change_row(day: str, item: Item) -> list[Cell]:
     """A change: a difference with its reason, or a whole account with the name of the file that it came in."""
+    part, rows = item.part, item.rows
     more = f" and {len(rows) - 1} rows" if len(rows) > 1 else ""
     return [day, part.at, part.who, part.name, f"{rows[0]}{more}"]

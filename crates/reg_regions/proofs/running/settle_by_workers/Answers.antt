@@ -1,25 +1,20 @@
-use Rattle.std.proofs.Common.{◌≡◌, arith, length, map, refl, sym, ap, subst, ◌∙◌}
+use Rattle.std.proofs.Common.{◌≡◌, length, map, refl, sym, ap, subst, ◌∙◌}
 use Rattle.std.specs.Prelude.{All}
-use Rattle.std.proofs.lemmas.List.{length-map}
 use Rattle.std.proofs.lemmas.List.Sorted.{All-permutation}
 use Rattle.reg_base.specs.Rising.{count_up}
+use Rattle.reg_facts.specs.Counting.{times}
 use Rattle.reg_regions.specs.declared.running.settled_list.SettledList.{SettledList}
 use Rattle.reg_regions.specs.Homes.{IsPlaceUpTo}
-use Rattle.reg_regions.specs.Stealing.{IsSettledList, numbers_of, settled_places, first_numbers}
-use Rattle.reg_regions.specs.Stealing.{shift_workers, times_in_shifts}
+use Rattle.reg_regions.specs.Settling.{kept}
+use Rattle.reg_regions.specs.Stealing.{IsSettledList, numbers_of, settled_places, times_noted}
 use Rattle.reg_regions.proofs.Listed.{dealt-sizes, settled-once, places-once}
 use Rattle.reg_regions.proofs.Marking.{once-within}
-use Rattle.reg_regions.proofs.Tallied.{sorted-numbers, places-permuted, all-flat, length-below}
+use Rattle.reg_regions.proofs.Tallied.{sorted-numbers, places-permuted, range-first}
 use Rattle.reg_regions.proofs.running.settle_by_workers.Goals as goal
 
-pub count_up-requires-clause-stake : goal.count_up-requires-clause-stake
-count_up-requires-clause-stake g c =
-    let numbers = ap length (c.in_ok-ended.ensures.numbers ∙ c.in_ok-crew.ensures.numbers) in
-    let many = length-map c.in_ok-ended.ended.items (λ w. w.shift.worker) in
-    let count = length-below c.in_ok-deques.deques.len in
-    let stake = c.in_ok-crew.ensures.stake in
-    let len = c.in_ok-ended.ended.ok.0 in
-    omega (arith, numbers, many, count, stake, len)
+pub with_idle-requires-clause-crew : goal.with_idle-requires-clause-crew
+with_idle-requires-clause-crew g c =
+    c.in_ok-done.ensures.workers ∙ c.in_ok-yard.ensures.numbers ∙ range-first c.crew_for-crew.result
 
 pub take_apart-requires : goal.take_apart-requires
 take_apart-requires g c =
@@ -36,9 +31,7 @@ take_apart-requires g c =
     sorted-numbers (length openings) done settled moved c.in_order-settled.ensures.sorted
     c.in_ok-done.ensures.each in
     let many = c.requires.ground.as_many in
-    let all : All is settled = All-permutation is done settled moved
-    (subst (All is) (sym c.in_ok-done.ensures.settled)
-    (all-flat is (λ w. w.settled.items) c.in_ok-ended.ended.items c.in_ok-ended.ensures.settled)) in
+    let all : All is settled = All-permutation is done settled moved c.in_ok-done.ensures.settled in
     let n = length batch.instructions in
     let size : length c.in_ok-slots.slots.items ≡ n = c.in_ok-slots.ensures ∙ c.len.ensures.value in
     subst (λ m. All (IsPlaceUpTo m) (settled_places settled)) (sym size)
@@ -61,23 +54,23 @@ returns g c =
     sorted-numbers (length openings) done settled moved c.in_order-settled.ensures.sorted
     c.in_ok-done.ensures.each in
     let many = c.requires.ground.as_many in
-    let all : All is settled = All-permutation is done settled moved
-    (subst (All is) (sym c.in_ok-done.ensures.settled)
-    (all-flat is (λ w. w.settled.items) c.in_ok-ended.ended.items c.in_ok-ended.ensures.settled)) in
+    let all : All is settled = All-permutation is done settled moved c.in_ok-done.ensures.settled in
     let new = c.in_ok-all.all.lists.items in
     let closed = c.in_ok-all.ensures.lists in
     let each = c.requires.each_once in
-    let shifts = c.in_ok-all.ensures.shifts in
+    let noted = c.in_ok-all.ensures.notes in
+    let keeps = g.N.Notes.keeps in
+    let places = g.N.Notes.places in
     record {
       settled = settled-once setting batch openings deals settled same many all lists new c.requires.openings closed
           each c.in_ok-all.all.replies.items c.in_ok-slots.slots.items (c.in_ok-slots.ensures ∙ c.len.ensures.value)
           c.in_ok-all.ensures.replies;
       sizes = dealt-sizes setting batch openings deals settled same many all lists new c.requires.openings closed
           c.step_laws.ensures;
-      shifts = record {
-        workers_are = ap (λ v. shift_workers v.items) shifts ∙ c.in_ok-done.ensures.workers
-            ∙ c.in_ok-ended.ensures.numbers ∙ c.in_ok-crew.ensures.numbers ∙ ap first_numbers c.in_ok-deques.ensures;
-        each_once = λ p. ap (λ v. times_in_shifts p v.items) shifts ∙ c.in_ok-done.ensures.times p
+      notes = record {
+        workers_are = ap (λ v. map g.N.Notes.worker v.items) noted ∙ c.in_ok-notes.ensures.workers;
+        each_once = λ all_kept p. ap (λ v. times_noted places p v.items) noted ∙ c.in_ok-notes.ensures.times p
+            ∙ c.in_ok-done.ensures.times p ∙ ap (λ b. times p (kept b (settled_places done))) all_kept
             ∙ sym (places-permuted p done settled moved)
             ∙ places-once setting batch openings deals settled same many all lists new c.requires.openings closed
             each p;

@@ -1,20 +1,9 @@
-use Rattle.std.proofs.Common.{[]}
-use Rattle.reg_claim.specs.Seats.{table_id}
 use Rattle.reg_regions.specs.Stealing.{region_openings}
 use Rattle.reg_regions.proofs.running.settle_lists.Given as goal
 
 -- the regions begin with the lists of the arguments
-abbrev pub ghosts-settle_alone : goal.ghosts-settle_alone
-ghosts-settle_alone g a = record {
-  openings = region_openings a.lists.items;
-  deals = a.deals.items;
-  table = record { words = 0; slots = 0; views_name = 0; atom = 0; block = 0; offset = 0; slot_names = [] };
-}
-
--- and the table is that of the arguments
 abbrev pub ghosts-settle_by_workers : goal.ghosts-settle_by_workers
 ghosts-settle_by_workers g a = record {
   openings = region_openings a.lists.items;
   deals = a.deals.items;
-  table = table_id a.table;
 }

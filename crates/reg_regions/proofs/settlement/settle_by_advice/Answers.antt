@@ -3,10 +3,10 @@ use Rattle.std.proofs.lemmas.Grind.{common_steps}
 use Rattle.std.specs.Prelude.{All}
 use Rattle.reg_rules.specs.Laws.{IsReady}
 use Rattle.reg_rules.specs.State.{State}
-use Rattle.reg_regions.specs.Dealing.{IsAdmitted, AreSettledOnce}
+use Rattle.reg_regions.specs.Dealing.{AreSettledOnce}
 use Rattle.reg_regions.specs.Lists.{joined_lists}
 use Rattle.reg_regions.specs.Swaps.{IsSwapWithin, exchanged}
-use Rattle.reg_regions.proofs.Endings.{at-some}
+use Rattle.reg_regions.proofs.Endings.{admitted}
 use Rattle.reg_regions.proofs.Exchanged.{exchanged-same, length-exchanged}
 use Rattle.reg_regions.proofs.Pieces.{ready-permuted}
 use Rattle.reg_regions.proofs.Sized.{same-size}
@@ -16,45 +16,33 @@ pub settle_lists-requires-clause-ready : goal.settle_lists-requires-clause-ready
 settle_lists-requires-clause-ready g c κs within =
     let base = c.args.batch.now.base + 1 in
     let old = joined_lists c.in_ok-regions.regions.items in
-    let new = c.admit-found.result.1.items in
-    let p : IsAdmitted c.args.setting.now c.args.batch.now c.in-Some.dealing old new =
-    at-some c.admit-found.result.0 (joined_lists new ≡ old)
-    (λ d. IsAdmitted c.args.setting.now c.args.batch.now d old new) c.in-Some.dealing c.in-Some.is
-    c.admit-found.ensures in
     let swaps = c.in-Some.dealing.swaps.items in
+    let p = admitted c.args.setting.now c.args.batch.now old c.admit-found.result.1.items c.in-Some.is
+    c.admit-found.ensures in
     subst (IsReady base) (sym p.swapped)
     (ready-permuted base old (exchanged swaps old) (exchanged-same swaps old p.within)
     (subst (IsReady base) (sym (c.in_ok-regions.ensures ∙ c.in_ok-cut.ensures)) c.requires.ready))
 
 pub settle_lists-requires-clause-home : goal.settle_lists-requires-clause-home
 settle_lists-requires-clause-home g c κs within =
-    let old = joined_lists c.in_ok-regions.regions.items in
-    let new = c.admit-found.result.1.items in
-    (at-some c.admit-found.result.0 (joined_lists new ≡ old)
-    (λ d. IsAdmitted c.args.setting.now c.args.batch.now d old new) c.in-Some.dealing c.in-Some.is
-    c.admit-found.ensures).home
+    (admitted c.args.setting.now c.args.batch.now (joined_lists c.in_ok-regions.regions.items)
+    c.admit-found.result.1.items c.in-Some.is c.admit-found.ensures).home
 
 pub settle_lists-requires-clause-each_once : goal.settle_lists-requires-clause-each_once
 settle_lists-requires-clause-each_once g c κs within =
-    let old = joined_lists c.in_ok-regions.regions.items in
-    let new = c.admit-found.result.1.items in
-    (at-some c.admit-found.result.0 (joined_lists new ≡ old)
-    (λ d. IsAdmitted c.args.setting.now c.args.batch.now d old new) c.in-Some.dealing c.in-Some.is
-    c.admit-found.ensures).each_once
+    (admitted c.args.setting.now c.args.batch.now (joined_lists c.in_ok-regions.regions.items)
+    c.admit-found.result.1.items c.in-Some.is c.admit-found.ensures).each_once
 
 pub swap_back-requires : goal.swap_back-requires
 swap_back-requires g c =
     let old = joined_lists c.in_ok-regions.regions.items in
-    let new = c.admit-found.result.1.items in
-    let p : IsAdmitted c.args.setting.now c.args.batch.now c.in-Some.dealing old new =
-    at-some c.admit-found.result.0 (joined_lists new ≡ old)
-    (λ d. IsAdmitted c.args.setting.now c.args.batch.now d old new) c.in-Some.dealing c.in-Some.is
-    c.admit-found.ensures in
     let swaps = c.in-Some.dealing.swaps.items in
+    let p = admitted c.args.setting.now c.args.batch.now old c.admit-found.result.1.items c.in-Some.is
+    c.admit-found.ensures in
     let now = c.deref_mut.result.now in
     let size : length (joined_lists now) ≡ length old =
     ap (λ ls. length (joined_lists ls)) c.deref_mut.ensures.value
-    ∙ same-size c.in_ok-settled.settled.lists.items new c.in_ok-settled.ensures.sizes
+    ∙ same-size c.in_ok-settled.settled.lists.items c.admit-found.result.1.items c.in_ok-settled.ensures.sizes
     ∙ ap length p.swapped ∙ length-exchanged swaps old in
     subst (All (IsSwapWithin (length (joined_lists now)))) (sym c.deref-2.ensures.value)
     (subst (λ n. All (IsSwapWithin n) swaps) (sym size) p.within)
@@ -63,11 +51,9 @@ pub returns-clause-turned : goal.returns-clause-turned
 returns-clause-turned g c =
     let b = c.args.batch.now in
     let old = joined_lists c.in_ok-regions.regions.items in
-    let new = c.admit-found.result.1.items in
-    let p : IsAdmitted c.args.setting.now b c.in-Some.dealing old new =
-    at-some c.admit-found.result.0 (joined_lists new ≡ old)
-    (λ d. IsAdmitted c.args.setting.now b d old new) c.in-Some.dealing c.in-Some.is c.admit-found.ensures in
     let swaps = c.in-Some.dealing.swaps.items in
+    let p = admitted c.args.setting.now c.args.batch.now old c.admit-found.result.1.items c.in-Some.is
+    c.admit-found.ensures in
     let settled = c.in_ok-settled.settled in
     let after = joined_lists settled.lists.items in
     let same = c.in_ok-regions.ensures ∙ c.in_ok-cut.ensures in

@@ -1,10 +1,9 @@
 use Rattle.std.proofs.Common.{arith, ◌≡◌, ◌+◌, ◌-◌, ◌++◌, ◌∷◌, [], map, drop, get_or, length, sym, ap, ◌∙◌, suc}
 use Rattle.std.specs.Prelude.{slice_get}
 use Rattle.std.proofs.lemmas.List.{map-append}
-use Rattle.reg_base.specs.Rising.{count_up}
 use Rattle.reg_regions.specs.Stealing.{region_openings}
 use Rattle.reg_regions.proofs.Listed.{next-opening, next-deal}
-use Rattle.reg_regions.proofs.Tallied.{count-more}
+use Rattle.reg_regions.proofs.Placing.{count-more}
 use Rattle.reg_regions.proofs.running.regions.make_regions.Goals as goal
 
 pub loop-accounts-preserved : goal.loop-accounts-preserved
@@ -17,7 +16,6 @@ loop-accounts-preserved g c =
     let next = next-opening g.C.Cutting.openings n c.in-Some.accounts.items
     (region_openings c.next.new.self.rest.items) (sym (ap region_openings items) ∙ i.left) in
     let one : suc n ≡ n + 1 = omega arith in
-    let turn : 1 + n ≡ n + 1 = omega arith in
     record {
       can_go = record {};
       ends = record {};
@@ -28,7 +26,7 @@ loop-accounts-preserved g c =
       numbers = ap (map (λ r. r.number)) c.in_ok-push.ensures.items
           ∙ map-append (λ r. r.number) c.loop-accounts.regions.items _
           ∙ ap (λ ns. ns ++ (n + 1) ∷ []) i.numbers
-          ∙ sym (count-more n 1 ∙ ap (λ k. count_up 1 n ++ k ∷ []) turn);
+          ∙ sym (count-more n);
     }
 
 pub invariant_of-push : goal.invariant_of-push

@@ -11,7 +11,7 @@ use Rattle.reg_regions.proofs.CarryingOut.{carried-out_at, got-at}
 use Rattle.reg_regions.proofs.running.shift.carry_out.Goals as goal
 
 pub returns-clause-made : goal.returns-clause-made
-returns-clause-made c =
+returns-clause-made g c =
     let setting = c.args.setting.now in
     let batch = c.args.batch.now in
     let instruction = c.index-instructions-index.result in

@@ -1,14 +1,15 @@
-use Rattle.std.proofs.Common.{◌-◌, ◌<◌, ◌≤◌, ◌∷◌, ◌++◌, [], length, take, get_or, append_assoc, sym, ap}
+use Rattle.std.proofs.Common.{◌-◌, ◌<◌, ◌≤◌, ◌∷◌, ◌++◌, [], length, take, get_or, sym, ap}
 use Rattle.std.proofs.Common.{subst, ◌∙◌, arith}
 use Rattle.std.specs.Prelude.{All}
 use Rattle.std.proofs.lemmas.List.{take_more, map-append}
 use Rattle.std.proofs.lemmas.List.Elements.{All-weaker}
 use Rattle.reg_rules.specs.State.{numbers}
-use Rattle.reg_regions.specs.declared.region.Placed.{Placed}
-use Rattle.reg_regions.specs.Settling.{places_in}
+use Rattle.reg_regions.specs.declared.instruction.Placed.{Placed}
+use Rattle.reg_regions.specs.Settling.{kept, places_in}
 use Rattle.reg_regions.proofs.AtHome.{rise-before, ready-next}
 use Rattle.reg_regions.proofs.Keeping.{numbers-one}
 use Rattle.reg_regions.proofs.CarryingOut.{run-more}
+use Rattle.reg_regions.proofs.Tallied.{noted-more}
 use Rattle.reg_regions.proofs.running.shift.settle_gated.Goals as goal
 
 pub carry_out-requires-clause-ready : goal.carry_out-requires-clause-ready
@@ -42,8 +43,9 @@ loop-index-preserved g c =
       same_numbers = ap numbers made.accounts
           ∙ numbers-one c.step_laws.ensures setting batch c.loop-index.accounts place ∙ before.same_numbers;
       worker = c.in_ok-reply.ensures.worker ∙ before.worker;
-      noted = c.in_ok-reply.ensures.noted ∙ ap (λ ps. ps ++ place ∷ []) before.noted
-          ∙ append_assoc c.args.shift.now.places.items (places_in c.loop-index.replies.items) (place ∷ [])
-          ∙ ap (λ ps. c.args.shift.now.places.items ++ ps)
+      noted = c.in_ok-reply.ensures.noted
+          ∙ noted-more g.N.Notes.keeps (g.N.Notes.places c.args.notes.now) (places_in c.loop-index.replies.items)
+          (place ∷ []) before.noted
+          ∙ ap (λ ps. g.N.Notes.places c.args.notes.now ++ kept g.N.Notes.keeps ps)
           (sym (ap places_in grown ∙ map-append (λ (p : Placed). p.place) c.loop-index.replies.items _));
     }

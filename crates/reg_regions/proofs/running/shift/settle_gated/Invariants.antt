@@ -1,7 +1,7 @@
 use Rattle.std.proofs.Common.{◌≡◌, ℕ, ◌+◌, ◌++◌, ◌<◌, ◌≤◌, length, take, get_or}
 use Rattle.reg_rules.specs.State.{numbers}
 use Rattle.reg_rules.specs.Laws.{IsReady}
-use Rattle.reg_regions.specs.Settling.{places_in, IsRun}
+use Rattle.reg_regions.specs.Settling.{kept, places_in, IsRun}
 use Rattle.reg_regions.proofs.running.shift.settle_gated.Given as goal
 
 abbrev pub invariant-loop-index : goal.invariant-loop-index
@@ -12,6 +12,7 @@ invariant-loop-index g l =
       placed : places_in l.replies.items ≡ take l.index l.places;
       ready : (j : ℕ) → l.index ≤ j → j < length l.places → IsReady (l.batch.base + get_or l.places j 0) l.accounts;
       same_numbers : numbers l.accounts ≡ numbers l.initial.accounts;
-      worker : l.shift.worker ≡ l.fn.shift.worker;
-      noted : l.shift.places.items ≡ l.fn.shift.places.items ++ places_in l.replies.items;
+      worker : g.N.Notes.worker l.notes ≡ g.N.Notes.worker l.initial.notes;
+      noted : g.N.Notes.places l.notes
+          ≡ g.N.Notes.places l.initial.notes ++ kept g.N.Notes.keeps (places_in l.replies.items);
     }

@@ -12,7 +12,7 @@ use Rattle.reg_regions.proofs.Replying.{length-put, put-more, within-front, with
 use Rattle.reg_regions.proofs.running.tally.take_apart.Goals as goal
 
 pub put_replies-requires : goal.put_replies-requires
-put_replies-requires c =
+put_replies-requires g c =
     let i = c.loop-one.invariant in
     let n = length c.args.slots.items in
     let own = places_in c.in-Some.one.replies.items in
@@ -22,7 +22,7 @@ put_replies-requires c =
     subst (λ m. All (IsPlaceUpTo m) own) (sym i.size) (within-front n own left all)
 
 pub loop-one-preserved : goal.loop-one-preserved
-loop-one-preserved c =
+loop-one-preserved g c =
     let i = c.loop-one.invariant in
     let n = length c.args.slots.items in
     let one = c.in-Some.one in
@@ -48,7 +48,7 @@ loop-one-preserved c =
     }
 
 pub returns-clause-lists : goal.returns-clause-lists
-returns-clause-lists c =
+returns-clause-lists g c =
     let none : c.loop-one.one-iterator.rest.items ≡ [] =
     nil_from_length _ (sym c.loop-one.one-iterator.rest.ok.0 ∙ c.in-None.ensures.steps.0) in
     sym (append-nil c.loop-one.lists.items)
@@ -56,7 +56,7 @@ returns-clause-lists c =
     ∙ c.loop-one.invariant.lists
 
 pub returns-clause-replies : goal.returns-clause-replies
-returns-clause-replies c =
+returns-clause-replies g c =
     let none : c.loop-one.one-iterator.rest.items ≡ [] =
     nil_from_length _ (sym c.loop-one.one-iterator.rest.ok.0 ∙ c.in-None.ensures.steps.0) in
     ap (λ (ss : List SettledList). put_all (flat_map (λ s. s.replies.items) ss) c.loop-one.replies.items) (sym none)

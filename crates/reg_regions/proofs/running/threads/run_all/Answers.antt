@@ -1,4 +1,5 @@
 use Rattle.std.proofs.Common.{◌≡◌, Ok, length, get_or, sym, ap, ◌∙◌, arith}
+use Rattle.reg_deques.specs.Yards.{worker_of}
 use Rattle.reg_regions.specs.Stealing.{AreSettled}
 use Rattle.reg_regions.proofs.Ended.{as-many, answered, same-at}
 use Rattle.reg_regions.proofs.running.threads.run_all.Goals as goal
@@ -16,11 +17,12 @@ returns g c =
     let good = as-many ws rs is in
     let len : length ws ≡ length jobs = omega (arith, both, answers, ready, good) in
     record {
-      numbers = same-at jobs ws (λ w. w.number) (λ w. w.shift.worker) len (λ i j w lt.
+      numbers = same-at jobs ws (λ w. worker_of w.taker.pass) (λ w. g.N.Notes.worker w.notes) len (λ i j w lt.
           let k = (each i (Ok w) lt).1 in
-          let same : (get_or ws i w).shift.worker ≡ k.job.number =
-          answered ws rs (λ v. v.shift.worker ≡ k.job.number) is i w (omega (arith, lt, len)) k.call.met.0 in
-          same ∙ sym (ap (λ v. v.number) (k.job_is j)));
+          let same : g.N.Notes.worker (get_or ws i w).notes ≡ worker_of k.job.taker.pass =
+          answered ws rs (λ v. g.N.Notes.worker v.notes ≡ worker_of k.job.taker.pass) is i w
+          (omega (arith, lt, len)) k.call.met.0 in
+          same ∙ sym (ap (λ v. worker_of v.taker.pass) (k.job_is j)));
       settled = λ i w lt.
           let k = (each i (Ok w) (omega (arith, lt, len))).1 in
           answered ws rs (λ v. AreSettled c.args.setting.now c.args.batch.now g.C.Cutting.openings g.C.Cutting.deals

@@ -1,8 +1,6 @@
 use Rattle.std.proofs.Common.{◌≡◌, ◌∷◌, [], List, Vec, Global, length, sym, ap, subst, ◌∙◌, append-nil}
-use Rattle.reg_base.specs.Rising.{count_up}
 use Rattle.reg_facts.specs.Counting.{times}
 use Rattle.reg_account.specs.Account.{AccountValue}
-use Rattle.reg_regions.specs.declared.dealing.Deal.{Deal}
 use Rattle.reg_regions.specs.Dealing.{AreDealtOnce}
 use Rattle.reg_rules.specs.State.{State, numbers}
 use Rattle.reg_book.specs.Indexes.{index_lists}
@@ -32,7 +30,8 @@ settle_lists-requires-clause-each_once g c κs within =
 pub returns-clause-turned : goal.returns-clause-turned
 returns-clause-turned g c =
     let same : joined_lists c.in_ok-lists.lists.items ≡ joined_lists c.args.lists.items =
-    ap joined_lists c.in_ok-lists.ensures ∙ append-nil c.in_ok-accounts.accounts.items ∙ c.in_ok-accounts.ensures in
+    ap joined_lists c.in_ok-lists.ensures ∙ append-nil c.in_ok-accounts.accounts.items ∙ c.in_ok-accounts.ensures
+    ∙ c.in_ok-joined.ensures in
     whole-turned c.args.setting.now c.args.batch.now c.settle_lists.result (λ s. joined_lists s.lists.items)
     (λ s. s.replies.items) (joined_lists c.args.lists.items) (joined_lists c.in_ok-lists.lists.items) same
     c.settle_lists.ensures.settled

@@ -1,0 +1,59 @@
+"""What packages of Debian are good for, unpacked. For cases/run-release."""
+from __future__ import annotations
+
+import os
+import re
+import shutil
+from collections.abc import Sequence
+from pathlib import Path
+
+from by_pip import TOLD
+from harness import LeftOut, Word, answer_of, differs
+from lived_weeks import WEEK, Somebody, week_fault
+from standins import VERSION
+
+
+def debian_fault(made: Path, room: Path) -> object:
+    """What is wrong with the packages: their names and scripts, what lintian says, and a day that is lived in them."""
+    packages = sorted(made.glob("*.deb"))
+    if not packages:
+        raise LeftOut("dpkg-deb or a C compiler is not here, so no package was made")
+    names = [path.name.partition("_")[0] for path in packages]
+    if names != ["libregistry-dev", "libregistry1", "python3-registry", "registry"]:
+        return f"these are the packages: {names}"
+    root = room / "root"
+    root.mkdir(parents=True)
+    for path in packages:
+        control = answer_of(["dpkg-deb", "--ctrl-tarfile", path])[0]
+        scripts = re.findall(rb"\./(preinst|postinst|prerm|postrm|config)\0", control)
+        if scripts or answer_of(["dpkg-deb", "-x", path, root])[2]:
+            return f"{path.name}: {scripts}"
+    wrong = week_fault(root / "usr/bin/registry-day", Somebody(room / "somebody"), "program")
+    return wrong or calls_fault(root) or lintian_fault(packages)
+
+
+def calls_fault(root: Path) -> object:
+    """What is wrong with the library in unpacked packages: for Python, and for a C compiler."""
+    (lib,) = root.glob("usr/lib/*-linux-gnu*")
+    found = {"PYTHONPATH": str(root / "usr/lib/python3/dist-packages"), "LD_LIBRARY_PATH": str(lib)}
+    said = answer_of(["/usr/bin/python3", "-B", "-c", TOLD], (WEEK / "monday.csv").read_bytes(), env=found)
+    if said[0].split()[:1] != [VERSION.encode()] or said[2]:
+        return f"python3-registry: {said}"
+    source, program = root / "tried.c", root / "tried"
+    source.write_text(
+        '#include <registry.h>\n#include <stdio.h>\n'
+        "int main(void) { printf(\"%s %u\\n\", REGISTRY_VERSION_STRING, registry_version()); }\n"
+    )
+    words: list[Word] = ["cc", f"-I{root / 'usr/include'}", f"-L{lib}", "-o", program, source, "-lregistry"]
+    made = answer_of(words)
+    said = answer_of([program], env=found) if made[2] == 0 else made
+    return differs(said, (f"{VERSION} 1\n".encode(), b"", 0))
+
+
+def lintian_fault(packages: Sequence[Path]) -> object:
+    if not shutil.which("lintian"):
+        return None
+    root = ["--allow-root"] if os.getuid() == 0 else []
+    said = answer_of(["lintian", *root, "--fail-on", "error", *packages])
+    # (a stand-in for the program is a script, and that for the library was built without the flags of Debian)
+    return f"lintian: {said[0].decode()}" if said[2] else None

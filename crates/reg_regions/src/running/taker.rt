@@ -1,0 +1,78 @@
+//! How a worker takes tasks: from its own deque, or from those of the others.
+
+ghost use Rattle.std.specs.Prelude.{◌≡◌, IfSome, IfNone};
+ghost use Rattle.reg_deques.specs.Yards.{deques, deques_of_pass, views, worker_of, IsPassOf, StealsAny};
+
+use crossbeam_utils::Backoff;
+use reg_deques::{Numbered, Owner, Pass, Steal, Yard};
+use std::marker::{Brand, PhantomData};
+
+/// Which claim table and which deques the workers of a call share. It has no code. What a thread gives back is known by
+/// its type alone, so its type names them.
+pub(crate) trait Sharing {
+    ghost use Rattle.std.specs.Prelude.{List};
+    ghost use Rattle.atomic_table.specs.Seated.{TableId};
+    ghost use Rattle.reg_deques.specs.Passes.{DequeId};
+
+    ghost table: { TableId };
+
+    ghost deques: { List DequeId };
+}
+
+/// Those that a caller picks from its own arguments.
+impl Sharing for Brand {
+    ghost use Rattle.std.specs.Prelude.{[]};
+
+    ghost table = { record { words = 0; slots = 0; views_name = 0; atom = 0; block = 0; offset = 0; slot_names = [] } };
+
+    ghost deques = { [] };
+}
+
+/// A worker's own deque, and what it knows of the others.
+#[derive(Drop)]
+pub(crate) struct Taker<T: Numbered, S: Sharing> {
+    pub(crate) owner: Owner<T>,
+    pub(crate) pass: Pass<T>,
+    pub(crate) of: PhantomData<S>,
+    pub(crate) ghost deques_are: { deques_of_pass pass ≡ S.deques },
+}
+
+impl<T: Numbered + Drop, S: Sharing> Taker<T, S> {
+    ghost use Rattle.reg_regions.specs.Taking.{TakesOne, taker_view};
+
+    /// The first task of the worker's own deque, or else of another one's. `None` if it found none.
+    pub(crate) fn take(&mut self, yard: &Yard<T>) -> Option<T>
+        requires yard { deques yard.now ≡ S.deques }
+        ensures worker { worker_of self.new.pass ≡ worker_of self.old.pass }
+        ensures some { IfSome result
+            (λ t. TakesOne (worker_of self.old.pass) (taker_view self.old) (T.number t) (taker_view self.new)) }
+        ensures none { IfNone result (taker_view self.new ≡ taker_view self.old) }
+    {
+        let own = self.owner.take_own();
+        if own.is_some() {
+            return own;
+        }
+        steal(yard, &mut self.pass)
+    }
+}
+
+// Steals a task from another worker. If somebody was quicker, it backs off and looks again: each time a task was taken,
+// so this comes to an end.
+fn steal<T: Numbered + Drop>(yard: &Yard<T>, pass: &mut Pass<T>) -> Option<T>
+    requires of { IsPassOf yard.now pass.old }
+    ensures of { deques_of_pass pass.new ≡ deques_of_pass pass.old }
+    ensures worker { worker_of pass.new ≡ worker_of pass.old }
+    ensures some { IfSome result
+        (λ t. StealsAny (worker_of pass.old) (views pass.old) (T.number t) (views pass.new)) }
+    ensures none { IfNone result (views pass.new ≡ views pass.old) }
+{
+    let backoff = Backoff::new();
+    for _look in 0..u32::MAX {
+        match yard.steal_any(pass) {
+            Steal::Success(task) => return Some(task),
+            Steal::Empty => return None,
+            Steal::Retry => backoff.snooze(),
+        }
+    }
+    None
+}

@@ -1,7 +1,0 @@
-use Rattle.reg_work.specs.Frames.{OwnerAlone}
-use Rattle.reg_work.proofs.worker.Worker.open_place.Given as goal
-
-abbrev pub invariant-loop-index : goal.invariant-loop-index
-invariant-loop-index g l = record {
-  rest : OwnerAlone l.initial.self l.self;
-}

@@ -1,0 +1,95 @@
+"""The settings of a folder, office.ini: the program, what `close` makes, deadlines, keys and people."""
+import configparser
+from dataclasses import dataclass
+from pathlib import Path
+
+from registry_tools.calendars import deadlines
+from registry_tools.calendars.deadlines import DueDates
+from registry_tools.errors import FileFault, shown
+from registry_tools.office import files, people
+from registry_tools.office.people import People
+
+LAYOUT, SECTION = "1", "office"
+# The section that names the key by which anchors are signed.
+ANCHOR, KEY = "anchor", "key"
+# What office.ini has: another section would be one that nobody reads.
+SECTIONS = (SECTION, deadlines.SECTION, ANCHOR, people.SECTION, people.FOUR_EYES)
+# What it names under [office].
+NAMES = ("layout", "program", "statements", "pages", "verify")
+
+
+@dataclass(frozen=True)
+class Settings:
+    """What office.ini says."""
+
+    # The program that settles; empty: the library if it was built, else the one that ./run starts.
+    program: str
+    makes_statements: bool
+    makes_pages: bool
+    # Whether the second answer works out all accounts of a day, and not only those that it touches.
+    verifies: bool = False
+    # The deadlines that the office names.
+    due: DueDates = DueDates()
+    # The key that signs anchors, if there is one.
+    key: Path | None = None
+    # Who may do what, and what waits for a second one.
+    people: People = People()
+
+    def text(self) -> str:
+        """The text of office.ini."""
+        return (
+            "# A folder that remembers its days: see docs/FORMATS.md.\n[office]\n"
+            f"layout = {LAYOUT}\n# The program that settles.\nprogram = {self.program}\n"
+            "# What ./day close makes beside the report: yes or no.\n"
+            f"statements = {words_of(self.makes_statements)}\npages = {words_of(self.makes_pages)}\n"
+        )
+
+
+def words_of(is_so: bool) -> str:
+    """A switch as the settings spell it."""
+    return "yes" if is_so else "no"
+
+
+def read(path: Path) -> Settings:
+    """The settings of a folder. Raises FileFault if they are none."""
+    parser = configparser.ConfigParser(interpolation=None)
+    text = files.bytes_in(path).decode("utf-8-sig", "surrogateescape")
+    try:
+        parser.read_string(text, str(path))
+    except configparser.Error as error:
+        raise FileFault(path, 0, "", f"these are no settings: {error}".replace("\n", " "), "") from None
+    if SECTION not in parser:
+        raise FileFault(path, 0, "", f"no row [{SECTION}]", f"[{SECTION}], and below it {', '.join(NAMES)}")
+    section = parser[SECTION]
+    strange = next((name for name in parser.sections() if name not in SECTIONS), None)
+    if strange is not None:
+        raise FileFault(path, 0, "section", shown(strange), f"one of {', '.join(f'[{name}]' for name in SECTIONS)}")
+    unknown = next((name for name in section if name not in NAMES), None)
+    if unknown is not None:
+        raise FileFault(path, 0, "name", shown(unknown), f"one of {', '.join(NAMES)}")
+    if section.get("layout") != LAYOUT:
+        raise FileFault(path, 0, "layout", shown(section.get("layout", "")), LAYOUT)
+    makes_statements, makes_pages = is_yes(path, section, "statements"), is_yes(path, section, "pages")
+    due = deadlines.read(path, parser)
+    verifies = "verify" in section and is_yes(path, section, "verify")
+    key, named = key_of(path, parser), people.read(path, text)
+    return Settings(section.get("program", ""), makes_statements, makes_pages, verifies, due, key, named)
+
+
+def key_of(path: Path, parser: configparser.ConfigParser) -> Path | None:
+    """The key that signs anchors. A path that is not whole begins at the folder."""
+    if ANCHOR not in parser:
+        return None
+    section = parser[ANCHOR]
+    unknown = next((name for name in section if name != KEY), None)
+    if unknown is not None or not section.get(KEY):
+        raise FileFault(path, 0, f"[{ANCHOR}]", shown(unknown or ""), f"{KEY} = PATH, a key of ssh-keygen")
+    return path.parent / section[KEY]
+
+
+def is_yes(path: Path, section: configparser.SectionProxy, name: str) -> bool:
+    """Whether a switch of the settings is on. Raises FileFault if it is neither yes nor no."""
+    word = section.get(name, "no")
+    if word not in ("yes", "no"):
+        raise FileFault(path, 0, name, shown(word), "yes or no")
+    return word == "yes"
