@@ -5,8 +5,9 @@
  *   if (answer.status == REGISTRY_DONE && answer.length <= sizeof room)
  *     fwrite(room, 1, answer.length, stdout);
  *
- * Each call reads a day text and writes the text of a command. docs/FORMATS.md describes all of these texts. Amounts in
- * them are whole allowances, each of one tonne of carbon dioxide equivalent; figures are tonnes; dates are YYYY-MM-DD.
+ * Each call reads a day text and writes the text of a command, several such texts, or the beginning of the next day's.
+ * docs/FORMATS.md describes all of these texts. Amounts in them are whole allowances, each of one tonne of carbon
+ * dioxide equivalent; figures are tonnes; dates are YYYY-MM-DD.
  *
  * What a caller gives
  *   day, day_length    the day text: so many bytes that may be read. Any bytes will do: if they are no day text, the

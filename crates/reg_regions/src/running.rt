@@ -115,16 +115,12 @@ fn new_table(alloc: Global, count: u32) -> Result<(ClaimTable, Seat), NoMemory>
 }
 
 // How many workers there are regions for: one, or all.
-fn crew_for(deals: &[Deal], workers: u32) -> u32
+fn busy_workers(deals: &[Deal], workers: u32) -> u32
     requires { 1 ≤ workers }
     ensures some { 1 ≤ result }
     ensures few { result ≤ workers }
 {
-    if are_few(deals) {
-        workers.min(1)
-    } else {
-        workers
-    }
+    if are_few(deals) { 1 } else { workers }
 }
 
 // Whether fewer than two regions have instructions.
@@ -144,18 +140,18 @@ fn are_few(deals: &[Deal]) -> bool {
 // The notes of the first workers, and those of the others up to so many, who carried out nothing.
 fn with_idle<N: Notes>(
     alloc: Global,
-    crew: u32,
+    busy: u32,
     workers: u32,
     notes: Vec<N>,
 ) -> Result<Vec<N>, NoMemory>
-    requires few { crew ≤ workers }
-    requires crew { map N.worker notes.items ≡ first_numbers crew }
+    requires few { busy ≤ workers }
+    requires busy { map N.worker notes.items ≡ first_numbers busy }
     ensures workers { IfOk result (λ all. map N.worker all.items ≡ first_numbers workers) }
     ensures times { IfOk result
         (λ all. (p : ℕ) → times_noted N.places p all.items ≡ times_noted N.places p notes.items) }
 {
     let mut all = notes;
-    for worker in crew..workers {
+    for worker in busy..workers {
         all.push(N::begin(alloc, worker))?;
     }
     Ok(all)
@@ -190,14 +186,14 @@ fn settle_by_workers<C: Cutting + Send + Sync, N: Notes + Send, R: Threads + Syn
 {
     step_laws();
     let count = lists.len() as u32;
-    let crew = crew_for(&deals, workers);
+    let busy = busy_workers(&deals, workers);
     let regions = make_regions::<C>(alloc, deals, lists)?;
-    let (yard, owners, passes) = Yard::new(alloc, crew)?;
+    let (yard, owners, passes) = Yard::new(alloc, busy)?;
     let done = run_dealt::<C, Brand, N, R, G>(
         rt, alloc, setting, batch, count, table, seat, regions, yard, owners, passes, gate,
     )?;
     let Done { settled, notes } = done;
-    let notes = with_idle(alloc, crew, workers, notes)?;
+    let notes = with_idle(alloc, busy, workers, notes)?;
     let settled = in_order(settled);
     let slots = replies_for_all(alloc, batch.len())?;
     let all = take_apart(alloc, settled, notes, slots)?;

@@ -8,7 +8,7 @@ use Rattle.reg_account.specs.Account.{AccountValue}
 use Rattle.reg_base.specs.Directory.{DirectoryValue}
 use Rattle.reg_rules.specs.State.{State, account}
 use Rattle.reg_rules.specs.declared.reply.LogRow.{LogRow}
-use Rattle.reg_text.specs.Statement.{touched_by}
+use Rattle.reg_text.specs.Statement.{footprint_of_row}
 
 found-either : (b : Bool) (v : AccountValue) (others : Option AccountValue) → is_some others ≡ true
     → is_some (cond b (Some v) others) ≡ true
@@ -26,10 +26,11 @@ own-found (w ∷ s) (suc i) v lt e =
 
 -- the footprint at an index is that of the row at it
 pub own-footprint : (d : DirectoryValue) (all : List (List ℕ)) (rows : List LogRow) (i : ℕ) (f : List ℕ) (r : LogRow)
-    → i < length rows → all ≡ map (touched_by d) rows → f ≡ get_or all i f → r ≡ get_or rows i r → f ≡ touched_by d r
+    → i < length rows → all ≡ map (footprint_of_row d) rows → f ≡ get_or all i f → r ≡ get_or rows i r
+    → f ≡ footprint_of_row d r
 own-footprint d all rows i f r lt ea ef er =
-    ef ∙ ap (λ (xs : List (List ℕ)). get_or xs i f) ea ∙ get_or-map (touched_by d) rows i r f lt
-    ∙ ap (touched_by d) (sym er)
+    ef ∙ ap (λ (xs : List (List ℕ)). get_or xs i f) ea ∙ get_or-map (footprint_of_row d) rows i r f lt
+    ∙ ap (footprint_of_row d) (sym er)
 
 -- what the steps of a loop over rows take
 pub ruleset footprint_loop = (take_more, take_all, map-append, append-nil, append_assoc)

@@ -19,12 +19,12 @@ use Rattle.reg_text.specs.Log.{holding_fields}
 use Rattle.reg_text.specs.Report.{log_rows, text_of}
 
 -- the accounts that the row's instruction reads or changes
-abbrev pub touched_by : DirectoryValue → LogRow → List ℕ
-touched_by directory row = footprint directory row.instruction.act
+abbrev pub footprint_of_row : DirectoryValue → LogRow → List ℕ
+footprint_of_row directory row = footprint directory row.instruction.act
 
 -- the account is in the footprint of the row's instruction
 abbrev pub concerns : DirectoryValue → ℕ → LogRow → Bool
-concerns directory a row = is_among (touched_by directory row) a
+concerns directory a row = is_among (footprint_of_row directory row) a
 
 -- the log rows in whose footprint the account is, in order
 abbrev pub rows_about : DirectoryValue → ℕ → List LogRow → List LogRow

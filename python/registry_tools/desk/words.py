@@ -142,7 +142,7 @@ def words_of_row(row: str, left_out: Collection[int] = ()) -> str:
 
 def seen(text: str, office: str) -> str:
     """The text of a page as it goes out. Messages name files by their paths, times in UTC, and words of commands: here
-    files of the folder begin in it, times are of this machine, and pages stand in place of the words."""
+    files of the folder begin in it, times are of this machine, and a page is named where a command was."""
     for what, here in AT_THE_DESK.items():
         text = text.replace(what, here)
     text = COMMAND.sub(lambda found: f"the page {PAGES[found[1]]}", text)

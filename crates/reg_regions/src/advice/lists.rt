@@ -52,7 +52,7 @@ pub(crate) fn join_lists(
         if region < short(joined.len()) {
             put_behind(&mut joined, list)?;
         } else {
-            joined.push(with_room(list, number_or_zero(&sizes, region))?)?;
+            joined.push(reserved(list, number_or_zero(&sizes, region))?)?;
         }
         index = index.saturating_add(1);
     }
@@ -75,11 +75,11 @@ fn sizes_together(
 }
 
 // A list with room for so many accounts, so that those that come behind it move once.
-fn with_room(list: Vec<Account>, room: u32) -> Result<Vec<Account>, NoMemory>
+fn reserved(list: Vec<Account>, count: u32) -> Result<Vec<Account>, NoMemory>
     ensures { IfOk result (λ roomy. roomy.items ≡ list.items) }
 {
     let mut list = list;
-    list.reserve((room as usize).saturating_sub(list.len()))?;
+    list.reserve((count as usize).saturating_sub(list.len()))?;
     Ok(list)
 }
 

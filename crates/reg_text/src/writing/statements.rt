@@ -13,7 +13,7 @@ ghost use Rattle.reg_text.specs.Plain.{IsPlain};
 ghost use Rattle.reg_text.specs.Log.{holding_fields};
 ghost use Rattle.reg_text.specs.Report.{text_of, log_rows};
 ghost use Rattle.reg_text.specs.Statement.{concerns, rows_about, told_by, last_told, statement_rows, statement_of};
-ghost use Rattle.reg_text.specs.Statement.{has_account, statements_of, touched_by, IsStatementFault};
+ghost use Rattle.reg_text.specs.Statement.{has_account, statements_of, footprint_of_row, IsStatementFault};
 
 use crate::writing::log::put_log_row;
 use crate::writing::report::put_end;
@@ -177,7 +177,7 @@ fn footprints_of(
     directory: &Directory,
     rows: &[LogRow],
 ) -> Result<Vec<Footprint>, NoMemory>
-    ensures { IfOk result (λ all. all.items ≡ map (touched_by directory.now) rows.now) }
+    ensures { IfOk result (λ all. all.items ≡ map (footprint_of_row directory.now) rows.now) }
 {
     let mut all = Vec::new(alloc);
     for log in rows {
@@ -203,7 +203,7 @@ fn put_row_touching(
     touched: &Footprint,
     told: Option<HeldNow>,
 ) -> Result<Option<HeldNow>, NoMemory>
-    requires { touched.now ≡ touched_by directory.now log.now }
+    requires { touched.now ≡ footprint_of_row directory.now log.now }
     ensures text { OnOk result
         (text.new ≡ text.old ++ text_of (log_rows (rows_about directory.now number (log.now ∷ [])))) }
     ensures told { IfOk result
@@ -225,7 +225,7 @@ fn put_rows_touching(
     rows: &[LogRow],
     touched: &[Footprint],
 ) -> Result<Option<HeldNow>, NoMemory>
-    requires { touched.now ≡ map (touched_by directory.now) rows.now }
+    requires { touched.now ≡ map (footprint_of_row directory.now) rows.now }
     ensures text { OnOk result (text.new ≡ text.old ++ text_of (log_rows (rows_about directory.now number rows.now))) }
     ensures told { IfOk result (λ told. told ≡ last_told directory.now number rows.now) }
 {
@@ -248,7 +248,7 @@ fn put_statement(
     touched: &[Footprint],
 ) -> Result<(), NoMemory>
     requires known { has_account book.now number ≡ true }
-    requires touched { touched.now ≡ map (touched_by (directory_of book.now.accounts)) rows.now }
+    requires touched { touched.now ≡ map (footprint_of_row (directory_of book.now.accounts)) rows.now }
     ensures { OnOk result (text.new ≡ text.old ++ text_of (statement_of book.now rows.now number)) }
 {
     let opening = find_held_in(book, number).unwrap();

@@ -12,9 +12,9 @@ use Rattle.reg_regions.proofs.Marking.{once-within}
 use Rattle.reg_regions.proofs.Tallied.{sorted-numbers, places-permuted, range-first}
 use Rattle.reg_regions.proofs.running.settle_by_workers.Goals as goal
 
-pub with_idle-requires-clause-crew : goal.with_idle-requires-clause-crew
-with_idle-requires-clause-crew g c =
-    c.in_ok-done.ensures.workers ∙ c.in_ok-yard.ensures.numbers ∙ range-first c.crew_for-crew.result
+pub with_idle-requires-clause-busy : goal.with_idle-requires-clause-busy
+with_idle-requires-clause-busy g c =
+    c.in_ok-done.ensures.workers ∙ c.in_ok-yard.ensures.numbers ∙ range-first c.busy_workers-busy.result
 
 pub take_apart-requires : goal.take_apart-requires
 take_apart-requires g c =
