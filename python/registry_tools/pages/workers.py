@@ -1,5 +1,5 @@
-"""The page of the workers: who owned and executed what. Which worker executes what differs from run to run, and is in no
-report: it comes from a text of lanes, with a line for each worker that owns regions of the book."""
+"""The page of the workers: who owned and executed what. Which worker executes what differs from run to run, and is in
+no report: it comes from a text of lanes, with a line for each worker that owns regions of the book."""
 from collections import Counter
 from collections.abc import Iterator
 
