@@ -14,7 +14,7 @@ from typing import TextIO
 
 from registry_tools import streams
 from registry_tools.second import faults, rules
-from registry_tools.tables import MOST_NUMBER
+from registry_tools.tables import MOST_NUMBER, VERSION
 
 HELP, NAME = str(__doc__), "tools/rules.py"
 COMMANDS = ("settle", "plan", "figures", "totals", "statement")
@@ -80,6 +80,9 @@ def main(words: list[str]) -> int:
     """Writes the text of a command, or the line of a fault, and answers the exit status."""
     if {"-h", "--help"} & {*words}:
         tell(sys.stdout, HELP)
+        return 0
+    if "--version" in words:
+        tell(sys.stdout, f"{NAME} of registry {VERSION}\n")
         return 0
     command, *account = words or [""]
     if not are_taken(command, account):
