@@ -8,8 +8,9 @@ use reg_base::{AccountNo, NoMemory};
 use reg_book::settle_plain;
 use reg_rules::{Closing, Holdings, LogRow, Reply};
 use reg_text::{
-    DayFault, DayInput, DayParts, figures, read_day, read_day_in_lists, read_instruction,
-    statement, totals_text, write_book, write_log_row, write_report, write_report_pieces,
+    DayFault, DayInput, DayParts, Version, all_statements, figures, read_day, read_day_in_lists,
+    read_instruction, read_version, statement, totals_text, write_book, write_front, write_log_row,
+    write_report, write_report_pieces,
 };
 use std::alloc::Global;
 use std::io::Write;
@@ -54,6 +55,27 @@ pub(crate) fn try_read_row<W: Write>(
     writer: &mut W,
 ) -> Result<(), Stop> {
     try_rehearsed(alloc, &text, &mut ReadingRow { text }, writer)
+}
+
+// `read_version`.
+#[derive(Drop)]
+struct ReadingVersion<'t> {
+    text: &'t [u8],
+}
+
+impl Call for ReadingVersion<'_> {
+    fn make(&mut self, alloc: Global) -> Ended {
+        how_ended(read_version(alloc, self.text))
+    }
+}
+
+/// Tries `read_version`.
+pub(crate) fn try_read_version<W: Write>(
+    alloc: Global,
+    text: &[u8],
+    writer: &mut W,
+) -> Result<(), Stop> {
+    try_rehearsed(alloc, &text, &mut ReadingVersion { text }, writer)
 }
 
 // How reading ended: with a day, or with the first fault of the text, which is looked at too.
@@ -188,6 +210,10 @@ pub(crate) enum Written {
     Totals,
     /// The statement of the account with the number 1.
     Statement,
+    /// The statements of all accounts.
+    Statements,
+    /// The text of the day up to its instructions, in version 2.
+    Front,
     /// The first row of the log.
     LogRow,
 }
@@ -209,6 +235,12 @@ impl Writing<'_> {
         how_ended(statement(alloc, &self.day.book, self.rows, number))
     }
 
+    // Writes the text of the day up to its instructions.
+    fn write_front(&self, alloc: Global) -> Ended {
+        let day = self.day;
+        how_ended(write_front(alloc, Version::Two, &day.rules, &day.book, day.batch.day()))
+    }
+
     // Writes the first row of the log.
     fn write_row(&self, alloc: Global) -> Ended {
         let Some(row) = self.rows.first() else {
@@ -227,6 +259,8 @@ impl Call for Writing<'_> {
             Written::Figures => how_ended(figures(alloc, book)),
             Written::Totals => how_ended(totals_text(alloc, book)),
             Written::Statement => self.state(alloc),
+            Written::Statements => how_ended(all_statements(alloc, book, self.rows)),
+            Written::Front => self.write_front(alloc),
             Written::LogRow => self.write_row(alloc),
         }
     }

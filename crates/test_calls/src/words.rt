@@ -10,7 +10,9 @@ use crate::single::try_apply;
 use crate::steps::try_execute;
 use crate::stop::Stop;
 use crate::tasks::{try_context, try_gather, try_opening, try_run};
-use crate::texts::{Written, try_pieces, try_read, try_read_in_lists, try_read_row, try_text};
+use crate::texts::{
+    Written, try_pieces, try_read, try_read_in_lists, try_read_row, try_read_version, try_text,
+};
 use crate::worlds::{try_event, try_start};
 use crate::yards::{try_put, try_yard};
 use reg_text::{DayInput, read_day};
@@ -37,6 +39,9 @@ pub fn try_named<R: Threads + Wait + Sync, W: Write>(
     }
     if name == "read_instruction" {
         return try_read_row(alloc, text, writer);
+    }
+    if name == "read_version" {
+        return try_read_version(alloc, text, writer);
     }
     if name == "read_day_in_lists" {
         return try_read_in_lists(rt, alloc, text, number, writer);
@@ -152,6 +157,8 @@ fn try_on_texts<W: Write>(
         "figures" => Written::Figures,
         "totals_text" => Written::Totals,
         "statement" => Written::Statement,
+        "all_statements" => Written::Statements,
+        "write_front" => Written::Front,
         "write_log_row" => Written::LogRow,
         _ => return Err(Stop::Input),
     };
