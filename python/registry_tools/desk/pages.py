@@ -21,13 +21,14 @@ from registry_tools.office.waits import waits_of
 from registry_tools.pages import html, summary
 from registry_tools.pages.html import Markup, link, tag
 from registry_tools.pages.plan import plan_parts
-from registry_tools.pages.settled import Settled, by_hand_parts, long_date, outcome_in_words, record_in_words
+from registry_tools.pages.settled import Settled, by_hand_parts, long_date, record_in_words
 from registry_tools.questions import due
 from registry_tools.second import faults, rules
 from registry_tools.sheets import columns as sheets
 from registry_tools.sheets import form
 from registry_tools.tables import RIGHTS
 from registry_tools.texts.in_words import grouped, instruction_in_words
+from registry_tools.texts.report import LogRow
 
 NAMES_OF_SUMS = ("held", "surrendered", "deleted")
 # What there are empty tables of; and how the last day of a year may be written in a spreadsheet.
@@ -200,13 +201,18 @@ def day(served: Served, word: str) -> Any:
     if settled is None:
         raise NotFound
     only = asked("only")
-    log = [own for own in settled.log if only not in ("done", "refused") or own.is_done == (only == "done")]
-    rows = [(own.record, record_in_words(own), rules.named(own.instruction), outcome_in_words(own), own) for own in log]
+    log = [own for own in settled.log if only not in ("done", "refused") or only == kind_of(own)]
+    rows = [(own.record, record_in_words(own), rules.named(own.instruction), settled.outcome(own), own) for own in log]
     return show_page(
         "day", long_date(date), date=date, above=parts_of(settled, served.reading), rows=rows, only=only,
         shown_row=lambda row: (row[0], row[1], settled.accounts_of(row[4]), row[3]),
         plan=plan_parts(settled) if settled.log else [],
     )  # fmt: skip
+
+
+def kind_of(logged: LogRow) -> str:
+    """Whether an instruction was done or refused, or only waits for its due day."""
+    return "done" if logged.is_done else "waiting" if logged.name == NOT_DUE else "refused"
 
 
 def parts_of(settled: Settled, own: Reading) -> list[Markup]:
@@ -217,7 +223,9 @@ def parts_of(settled: Settled, own: Reading) -> list[Markup]:
         if logged[0].name != NOT_DUE
     ]
     waiting = summary.waiting_rows(settled) if settled.waiting else []
-    parts = [summary.lead(settled)]
+    parts, count = [summary.lead(settled)], sum(kind_of(logged) == "waiting" for logged in settled.log)
+    if count:
+        parts.append(html.paragraph(f"{grouped(count)} of those that count as refused only wait for their due day."))
     if settled.log:
         parts.append(summary.acts_table(settled))
     if refused:

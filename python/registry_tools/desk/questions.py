@@ -11,8 +11,10 @@ from werkzeug.exceptions import NotFound
 from werkzeug.wrappers import Response
 
 from registry_tools.calendars.dates import date_of
+from registry_tools.calendars.due_days import NOT_DUE
 from registry_tools.desk.served import Served
 from registry_tools.desk.shown import asked, number_asked, show_page
+from registry_tools.desk.waiting import WAITS, with_due_day
 from registry_tools.desk.words import item_in_words, local, words_of_row
 from registry_tools.errors import FOUND, WordsFault
 from registry_tools.notes import BY_HAND
@@ -39,7 +41,6 @@ WHAT = {
     "release": "Release", "approve": "Approve", "audit": "Audit", "send": "Send", "try": "Look at the next day",
     "status": "Put right",
 }  # fmt: skip
-
 
 # Accounts.
 
@@ -76,7 +77,8 @@ def account(served: Served, number: int) -> Any:
     if parts is None:
         raise NotFound
     history = [*map(row_of_history, served.reading.history(number))] if asked("history") else None
-    return show_page("account", f"Account {number}", own=parts, number=number, history=history)
+    shown = with_due_day(served.reading.waits_until, 3)
+    return show_page("account", f"Account {number}", own=parts, number=number, history=history, shown_row=shown)
 
 
 def row_of_history(row: Sequence[Any]) -> Sequence[Any]:
@@ -86,7 +88,7 @@ def row_of_history(row: Sequence[Any]) -> Sequence[Any]:
         how, _, changed = what.rpartition(" ")
         what = f"{how} {words_of_row(changed)}"
     elif outcome != "done":
-        outcome = f"refused: {outcome}"
+        outcome = WAITS if outcome == NOT_DUE else f"refused: {outcome}"
     return day, record, what, outcome, *("" if own is None else grouped(own) for own in held)
 
 
@@ -173,14 +175,18 @@ def found(served: Served) -> list[tuple[Any, ...]]:
     """What the filters of the page find, as rows of texts."""
     own, said = served.reading, filters()
     state = own.state_of_names()
-    return own.once(("found", *said.values()), state, lambda: [*map(row_of_log, own.found(**said)[0])])
+    rows = own.once(("found", *said.values()), state, lambda: [*map(row_of_log, own.found(**said)[0])])
+    return [row for row in rows if row[5] != WAITS] if asked("no_waiting") else rows
 
 
 def find(served: Served) -> Any:
     """The page of log rows over all days."""
     rows = found(served) if flask.request.args else None
     query = flask.request.query_string.decode("ascii", "replace")
-    return show_page("find", "Find", rows=rows, said=flask.request.args, query=query, shown_row=cells_of_log)
+    whole = with_due_day(served.reading.waits_until, 5)
+    return show_page(
+        "find", "Find", rows=rows, said=flask.request.args, query=query, shown_row=lambda row: cells_of_log(whole(row))
+    )
 
 
 def row_of_log(own: LogRow) -> tuple[Any, ...]:
@@ -188,7 +194,8 @@ def row_of_log(own: LogRow) -> tuple[Any, ...]:
     i = own.instruction
     named = ", ".join(map(str, dict.fromkeys(rules.named(i))))
     by = f"{i.proposer}, {i.approver}" if i.approver else i.proposer
-    return str(own.date), own.record, record_in_words(own), named, by, outcome_in_words(own)
+    outcome = WAITS if own.name == NOT_DUE else outcome_in_words(own)
+    return str(own.date), own.record, record_in_words(own), named, by, outcome
 
 
 def cells_of_log(row: Sequence[Any]) -> Sequence[Any]:
@@ -201,6 +208,7 @@ def cells_of_log(row: Sequence[Any]) -> Sequence[Any]:
 def find_file(served: Served, kind: str) -> Response:
     """What was found, with all columns of ./day find, as a file."""
     rows, meant = served.reading.found(**filters())
+    rows = [own for own in rows if own.name != NOT_DUE or not asked("no_waiting")]
     cells = (row for own in rows for row in finding.cells_of(own, meant))
     texts = (["" if cell is None else str(cell) for cell in row] for row in cells)
     return file_of(served, kind, Written("found", [finding.COLUMNS.names, *texts]))

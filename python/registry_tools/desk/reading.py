@@ -11,6 +11,7 @@ from dataclasses import replace
 from pathlib import Path
 from typing import Any, Callable, Iterator, TypeVar
 
+from registry_tools.desk.waiting import DeskSettled, DeskStatement, waits_until
 from registry_tools.errors import FileFault, WordsFault
 from registry_tools.office import close, composing, folder, handed, labels, lock, past, prepared, trial
 from registry_tools.office.composing import NextDay
@@ -22,8 +23,8 @@ from registry_tools.pages import month
 from registry_tools.pages.account import own_parts
 from registry_tools.pages.html import Frame, Markup, joined
 from registry_tools.pages.rulebook import Rulebook
-from registry_tools.pages.settled import ByHand, Settled, by_hand_before
-from registry_tools.pages.statement import DayOfAccounts, Statement
+from registry_tools.pages.settled import ByHand, by_hand_before
+from registry_tools.pages.statement import DayOfAccounts
 from registry_tools.questions import find, history
 from registry_tools.texts.day_text import DayText
 from registry_tools.texts.pending import read_pending, waiting_before
@@ -38,14 +39,6 @@ LONG = 1.0
 # month, and so many dates a list.
 MOST_KEPT, DAYS_OF_STATEMENT, MOST_ROWS, MOST_DATES = 12, 31, 100, 10
 NEXT = Path("the next day")
-
-
-class DeskSettled(Settled):
-    """A settled day whose accounts have addresses of the desk."""
-
-    def account_address(self, number: int, root: str = "") -> str:
-        """Where the page of an account is."""
-        return f"/accounts/{number}"
 
 
 class Reading:
@@ -130,13 +123,18 @@ class Reading:
         filed = self.office().journal.filed()
         return next((event for event in reversed(filed) if date in (None, event.date)), None)
 
-    def settled(self, date: datetime.date | None = None) -> Settled | None:
+    def settled(self, date: datetime.date | None = None) -> DeskSettled | None:
         """A settled day, or the last one; None if there is none."""
         found = self.event(date)
         if found is None:
             return None
         event, state = found, f"{found.line} {looks_of(self.path / LABELS)}"
         return self.once(("settled", event.date), state, lambda: read_settled(self.office(), event))
+
+    def waits_until(self, date: datetime.date, record: int) -> str:
+        """Until when an instruction of a settled day waits that was not due on it."""
+        settled = self.settled(date)
+        return settled.outcome(settled.log[record - settled.head.next_record]) if settled else waits_until(None)
 
     def by_hand(self, date: datetime.date) -> ByHand:
         """What people changed before a settled day."""
@@ -167,8 +165,8 @@ class Reading:
         settled = self.settled()
         if settled is None or number not in settled.report.book:
             return None
-        statement = Statement(settled, number, self.days_of_statement())
-        return joined(*own_parts(settled, settled.report.book[number].account(), statement))
+        own = DeskStatement(settled, number, self.days_of_statement(), self.waits_until)
+        return joined(*own_parts(settled, settled.report.book[number].account(), own), *own.waited_parts())
 
     def asked(self, **more: Any) -> argparse.Namespace:
         """The words of a question over all days."""
@@ -267,7 +265,7 @@ def looks_of(path: Path) -> str:
     return f"{own.st_mtime_ns} {own.st_ctime_ns} {own.st_size} {own.st_ino}"
 
 
-def read_settled(office: Office, event: Event) -> Settled:
+def read_settled(office: Office, event: Event) -> DeskSettled:
     """A settled day with its report and the names."""
     own = next(past.read_all([past.pair_of(office, event)]))
     waits = read_pending(str(past.as_filed(office, event, "waiting")))
