@@ -10,6 +10,7 @@ from werkzeug.wrappers import Response
 
 from registry_tools.desk import gate, pages, posts, questions, tables, words
 from registry_tools.desk.served import Served
+from registry_tools.desk.shown import TYPED
 from registry_tools.errors import FileFault, WordsFault
 from registry_tools.pages import html
 from registry_tools.pages.rulebook import FORMATS, RULES
@@ -108,7 +109,17 @@ def failed(served: Served, error: Exception) -> Any:
     if isinstance(error, OSError):
         name = error.filename or "the folder"
         return gate.said(500, f"{name}: it cannot be read or written: {error.strerror or 'for a reason not known'}")
-    return gate.said(409 if isinstance(error, FileFault) else 400, str(error))
+    return gate.said(409 if isinstance(error, FileFault) else 400, str(error), back=way_back())
+
+
+def way_back() -> str:
+    """The address of the form that was sent, with what was typed; nothing, if there is none."""
+    asked, path = flask.request, "/" + flask.request.path.split("/")[1]
+    if asked.method == "GET":
+        return tables.address(typed=1) if asked.path in SECTIONS and asked.args and TYPED not in asked.args else ""
+    typed = {name: own for name, own in asked.form.to_dict(flat=False).items() if name not in posts.OF_PAGE}
+    kept = {name: [word[: posts.LONGEST_FIELD] for word in words] for name, words in typed.items()}
+    return tables.address_of(path if path in GET else "/", kept)
 
 
 def dress(app: flask.Flask, served: Served) -> None:

@@ -72,13 +72,14 @@ def with_headers(response: Response) -> Response:
     return response
 
 
-def said(code: int, text: str, is_again: bool = False) -> Response:
-    """A page that says one thing. `is_again`: it leads to the page that was asked for."""
+def said(code: int, text: str, is_again: bool = False, back: str = "") -> Response:
+    """A page that says one thing. `is_again`: it leads to the page that was asked for; `back` is the way to the form."""
     path = flask.request.full_path.rstrip("?") if is_again and flask.request.method == "GET" else ""
     # (two slashes would lead to another host)
     path = "/" + path.lstrip("/\\") if path else ""
     page = flask.render_template(
-        "base.html", page="said.html", title="No", text=text, path=path, is_in="token" in flask.session
+        "base.html", page="said.html", title="No", text=text, path=path, back=back,
+        is_in="token" in flask.session,
     )
     return flask.make_response(words.seen(page, flask.current_app.config["OFFICE"]), code)
 

@@ -120,7 +120,8 @@ def box(served: Served, place: int) -> object:
     """The place of something that was handed in, by which it is chosen."""
     if served.is_look:
         return place
-    own = Markup(f'<input type="checkbox" name="places" value="{place}">')
+    is_chosen = " checked" if str(place) in flask.request.args.getlist("places") else ""
+    own = Markup(f'<input type="checkbox" name="places" value="{place}"{is_chosen}>')
     return tag("label", own, f" {place}", class_="check")
 
 

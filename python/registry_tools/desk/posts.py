@@ -19,9 +19,10 @@ NUMBER, STATE = re.compile("[0-9a-f]{16}"), re.compile("[0-9a-f]{64}[.][0-9]{1,9
 PLACE, AGAIN = re.compile("[1-9][0-9]{0,8}"), re.compile("([0-9]{1,3}):([1-9][0-9]{0,8})")
 NOT_WHOLE = "the form is not whole: nothing was done"
 # Of a field that was typed so much is kept in the way back to it.
-LONGEST_FIELD = 80
-# The words of a form that are no fields of what it asks for.
-OF_FORM = {"token", "number", "state", "who", "why"}
+LONGEST_FIELD = 200
+# The words of a form that its page makes; and those that are no fields of what it asks for.
+OF_PAGE = {"token", "number", "state"}
+OF_FORM = OF_PAGE | {"who", "why"}
 
 
 def form(name: str) -> str:

@@ -13,7 +13,7 @@ from werkzeug.wrappers import Response
 from registry_tools.calendars.dates import date_of
 from registry_tools.calendars.due_days import NOT_DUE
 from registry_tools.desk.served import Served
-from registry_tools.desk.shown import asked, number_asked, show_page
+from registry_tools.desk.shown import TYPED, asked, number_asked, show_page
 from registry_tools.desk.waiting import WAITS, with_due_day
 from registry_tools.desk.words import item_in_words, local, words_of_row
 from registry_tools.errors import FOUND, WordsFault
@@ -181,7 +181,7 @@ def found(served: Served) -> list[tuple[Any, ...]]:
 
 def find(served: Served) -> Any:
     """The page of log rows over all days."""
-    rows = found(served) if flask.request.args else None
+    rows = found(served) if flask.request.args and TYPED not in flask.request.args else None
     query = flask.request.query_string.decode("ascii", "replace")
     whole = with_due_day(served.reading.waits_until, 5)
     return show_page(

@@ -11,6 +11,8 @@ from registry_tools.office import trial
 from registry_tools.pages import html
 from registry_tools.texts.checks import advice_for, checks
 
+# The word of an address that only fills the form of a page with what was typed.
+TYPED = "typed"
 NUMBER = re.compile("[1-9][0-9]{0,8}", re.ASCII)
 
 
@@ -24,8 +26,8 @@ def show_page(template: str, title: str, **more: Any) -> Response:
 
 
 def asked(name: str) -> str:
-    """What a word of the address says, without blanks around it."""
-    return flask.request.args.get(name, "").strip()
+    """What a word of the address says, without blanks around it; nothing, if it only fills the form."""
+    return "" if TYPED in flask.request.args else flask.request.args.get(name, "").strip()
 
 
 def number_asked(name: str) -> int | None:

@@ -20,7 +20,7 @@ def address(**more: object) -> str:
 def address_of(path: str, args: dict[str, object]) -> str:
     """The address of a page with these words in it; with None, without this word."""
     # (not by url_for: words of the address such as _external would be its own)
-    query = urllib.parse.urlencode({key: own for key, own in args.items() if own is not None}, errors="replace")
+    query = urllib.parse.urlencode({key: own for key, own in args.items() if own is not None}, True, errors="replace")
     return urllib.parse.quote(path) + (f"?{query}" if query else "")
 
 
