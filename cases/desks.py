@@ -4,6 +4,7 @@ from __future__ import annotations
 
 import contextlib
 import gc
+import html
 import io
 import os
 import re
@@ -19,6 +20,12 @@ from registry_tools.desk.jobs import COMMAND, Started
 from registry_tools.desk.served import Served
 
 HOST = "127.0.0.1:8424"
+# What no page says: commands, their options, and paths of the disk. Documents tell of commands; and what the trials
+# type into forms is shown as it was typed.
+OF_COMMANDS = re.compile(r".{0,60}(?:(?<![-\w])--[a-z]|\./day |/dev/shm/|/tmp/|[A-Z]\.md\b).{0,60}")
+DOCUMENTS, TYPED = ("/rules.html", "/formats.html"), ("/tmp/x",)
+# The places where a page said so, by the first line of its request.
+said_of_commands: dict[str, str] = {}
 Fields = dict[str, Any]
 
 
@@ -193,6 +200,8 @@ class Person:
         own = {**self.headers, **(headers or {})}
         # (without redirects: where one leads is looked at)
         answer = self.client.open(path, method=method, headers=own, **more)
+        if answer.mimetype == "text/html" and path not in DOCUMENTS:
+            look_for_commands(f"{method} {path}", answer.data.decode())
         return Answer(answer.status_code, dict(answer.headers), answer.data)
 
     def get(self, path: str) -> Answer:
@@ -215,6 +224,16 @@ class Person:
         if answer.status != 303:
             return answer
         return self.get(answer.headers["Location"])
+
+
+def look_for_commands(what: str, text: str) -> None:
+    """Keeps where a page has words of commands, or paths of the disk."""
+    shown = html.unescape(re.sub("<[^>]*>", "|", text))
+    for own in TYPED:
+        shown = shown.replace(own, "")
+    found = OF_COMMANDS.search(shown)
+    if found:
+        said_of_commands[what] = found[0]
 
 
 def uploads(files: dict[str, bytes]) -> Fields:

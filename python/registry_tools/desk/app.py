@@ -107,7 +107,7 @@ def failed(served: Served, error: Exception) -> Any:
     if isinstance(error, HTTPException):
         return gate.said(error.code or 500, f"{error.name}.")
     if isinstance(error, OSError):
-        name = error.filename or "the folder"
+        name = Path(str(error.filename or "the folder")).name
         return gate.said(500, f"{name}: it cannot be read or written: {error.strerror or 'for a reason not known'}")
     return gate.said(409 if isinstance(error, FileFault) else 400, str(error), back=way_back())
 

@@ -26,7 +26,7 @@ HEADERS = {
 }  # fmt: skip
 OTHER_ADDRESS = "This is another address than that of the desk."
 OTHER_SECRET = "The link has another secret: the desk prints a new one each time it is started."
-NOT_IN = "Open the link that ./day desk printed. If you were in already, go on to this page:"
+NOT_IN = "Open the link that the desk printed at its start. If you were in already, go on to this page:"
 OTHER_FORM = "The form is not of this desk, or it was started anew since. Nothing was done: look once more."
 NO_METHOD = "That is no method of this desk."
 NO_NAME = "The proxy before this desk has to say who you are, and it does not."

@@ -43,18 +43,26 @@ ITEMS = {
     handed.DO: ("instruction", "instructions"), handed.CHANGES: ("account", "accounts"),
     handed.EDITS: ("change by hand", "changes by hand"), handed.WORK: ("working day", "working days"),
 }  # fmt: skip
-# What messages say of words of commands, and what does the same here; and the page of a command. (Who works on the
-# folder is told by the command itself.)
+# What messages say of words of commands, and what does the same here; the page of a command; and what its options are.
 AT_THE_DESK = {
     OTHER_FORM: "another form is chosen with the file",
     EMPTY_TABLE: "the page Hand in has empty tables", OTHER_HEADINGS: "the page Hand in has empty tables",
     MORE_WORK: "add working days (Change, the rules)", "--release releases it": "its box on the page Send releases it",
+    "nothing to change: ./day change --help tells what can be": "nothing to change: the form says what is there already",
+    "./day label lists the names": "the page Accounts has the names",
+    "settled by no proved engine, as far as the journal says": "days for which the journal names no proved engine",
 }  # fmt: skip
 PAGES = {
     "hand-in": "Hand in", "take-back": "The next day", "try": "The next day", "change": "Change", "close": "Close",
     "undo": "Days", "release": "Days", "status": "Today", "approve": "Today", "audit": "Audit", "send": "Send",
+    "next": "The next day", "find": "Find", "history": "Accounts", "compliance": "Compliance", "month": "Months",
 }  # fmt: skip
-COMMAND = re.compile(rf"\./day ({'|'.join(PAGES)})\b(?! of )(?: [0-9][0-9-]*)?")
+OPTIONS = {"date": "the day", "day": "the day", "from": "the first day", "to": "the last day", "who": "your name",
+           "second": "by the second answer", "yes": "a yes"}  # fmt: skip
+COMMAND = re.compile(r"\./day ([a-z-]+)\b( of )?(?: [0-9][0-9-]*)?(?: --help)?")
+OPTION = re.compile(r"(?<![-\w])--([a-z]+(?:-[a-z]+)*)\b")
+AMOUNT = re.compile("a number from [01] to 18446744073709551615, in plain digits")
+DOCUMENT = re.compile(r"(?:docs/)?(RULES|FORMATS)\.md(#[a-z0-9-]+)?")
 # A time of the journal.
 TIME = re.compile("[0-9]{4}-[0-9]{2}-[0-9]{2}T[0-9]{2}:[0-9]{2}:[0-9]{2}Z")
 # What nobody sees, or turns the order of letters round: a page shows it by its number. (UTF-8 has no surrogates.)
@@ -145,6 +153,23 @@ def seen(text: str, office: str) -> str:
     files of the folder begin in it, times are of this machine, and a page is named where a command was."""
     for what, here in AT_THE_DESK.items():
         text = text.replace(what, here)
-    text = COMMAND.sub(lambda found: f"the page {PAGES[found[1]]}", text)
-    text = TIME.sub(lambda found: local(found[0]), text.replace(f"{markup(office)}/", ""))
+    text = re.sub(f"(?:--office )?{re.escape(markup(office))}(?!/)", "the folder", text.replace(f"{markup(office)}/", ""))
+    # (what stands in a tag, as what was typed into a field, stays)
+    parts = re.split("(<[^>]*>)", text)
+    text = "".join(part if part.startswith("<") else in_office_words(part) for part in parts)
+    text = TIME.sub(lambda found: local(found[0]), text)
     return UNSEEN.sub(lambda found: markup(escaped(found[0])), text)
+
+
+def in_office_words(text: str) -> str:
+    """A text without commands and their options: a page is named where a command was, and a document is a link."""
+    text = COMMAND.sub(page_of, AMOUNT.sub("a whole number without separators, as 1000", text))
+    text = OPTION.sub(lambda found: OPTIONS.get(found[1], found[1].replace("-", " ")), text)
+    return DOCUMENT.sub(lambda found: f'<a href="/{found[1].lower()}.html{found[2] or ""}">{found[1].lower()}</a>', text)
+
+
+def page_of(found: re.Match[str]) -> str:
+    """What stands at the desk where a command was: its page; what has none is a command, and so is who works."""
+    if found[2]:
+        return f"{found[1]} of "
+    return f"the page {PAGES[found[1]]}" if found[1] in PAGES else f"the command {found[1]}"
