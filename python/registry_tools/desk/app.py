@@ -118,7 +118,7 @@ def way_back() -> str:
     if asked.method == "GET":
         return tables.address(typed=1) if asked.path in SECTIONS and asked.args and TYPED not in asked.args else ""
     typed = {name: own for name, own in asked.form.to_dict(flat=False).items() if name not in posts.OF_PAGE}
-    kept = {name: [word[: posts.LONGEST_FIELD] for word in words] for name, words in typed.items()}
+    kept: dict[str, object] = {name: [word[: posts.LONGEST_FIELD] for word in words] for name, words in typed.items()}
     return tables.address_of(path if path in GET else "/", kept)
 
 
@@ -129,7 +129,7 @@ def dress(app: flask.Flask, served: Served) -> None:
         sections=sections, is_look=served.is_look, office=served.path.name,
         token=lambda: flask.session["token"], number=lambda: secrets.token_hex(8), state=lambda: flask.g.state,
         who=lambda: gate.known_name(served), says_name=not served.who and not served.header,
-        has_leftovers=served.reading.has_leftovers,
+        has_leftovers=served.reading.has_leftovers, apart=words.apart,
         table=tables.sorted_table, address=tables.address, acts=faults.ACT_WORDS, lag_words=words.LAGS,
         meaning=lambda name: checks()[name].meaning, advice=advice_for,
     )  # fmt: skip

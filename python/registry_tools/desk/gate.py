@@ -73,7 +73,7 @@ def with_headers(response: Response) -> Response:
 
 
 def said(code: int, text: str, is_again: bool = False, back: str = "") -> Response:
-    """A page that says one thing. `is_again`: it leads to the page that was asked for; `back` is the way to the form."""
+    """A page that says one thing. `is_again`: it leads to the page that was asked for; `back` is a form."""
     path = flask.request.full_path.rstrip("?") if is_again and flask.request.method == "GET" else ""
     # (two slashes would lead to another host)
     path = "/" + path.lstrip("/\\") if path else ""

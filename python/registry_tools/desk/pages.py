@@ -11,11 +11,12 @@ from registry_tools.desk import forms, gate, tables
 from registry_tools.desk.reading import Reading
 from registry_tools.desk.served import Served
 from registry_tools.desk.shown import asked, number_asked, outcome, show_page, whys
-from registry_tools.desk.words import item_in_words, local
+from registry_tools.desk.words import BESIDE, item_in_words, local, side_by_side
 from registry_tools.engine import find_library
 from registry_tools.errors import FileFault, WordsFault
 from registry_tools.notes import LOOK
 from registry_tools.office import approvals, awaited, close as closing, handed, release
+from registry_tools.office.changes import listing
 from registry_tools.office.trial import Looked
 from registry_tools.office.waits import waits_of
 from registry_tools.pages import html, summary
@@ -234,9 +235,29 @@ def parts_of(settled: Settled, own: Reading) -> list[Markup]:
         parts.append(tables.sorted_table("Refused", columns, refused, ["How many"], name="why-"))
     if waiting:
         parts.append(tables.sorted_table("Waiting", summary.WAITING_COLUMNS, waiting, name="waits-"))
+    return [*parts, *summary.totals_parts(settled), tag("h2", "Changed by hand"), *by_hand_told(settled, own)]
+
+
+def by_hand_told(settled: Settled, own: Reading) -> list[Markup]:
+    """What people changed before a day, by field, and who did so."""
     by_hand = own.by_hand(settled.head.date)
-    told = by_hand_parts(settled, by_hand) if by_hand.rows is not None else [html.paragraph("This is the first day.")]
-    return [*parts, *summary.totals_parts(settled), tag("h2", "Changed by hand"), *told]
+    if by_hand.rows is None:
+        return [html.paragraph("This is the first day.")]
+    if not by_hand.rows:
+        return by_hand_parts(settled, by_hand)
+    lines = [f"{row.account}: {row.words}" if row.account else row.words for row in by_hand.rows]
+    items = listing.items_of_day(own.office().day_folder(settled.head.date))
+    who = [(local(item.part.at), item.part.who, item.part.name, item_in_words(item)) for item in items]
+    return [
+        tables.sorted_table("Before and after", BESIDE, side_by_side(lines), show=with_link, name="rows-"),
+        tables.sorted_table("Who changed it, and why", ["At", "Who", "Why", "Change"], who, name="who-"),
+    ]
+
+
+def with_link(row: Sequence[Any]) -> Sequence[Any]:
+    """A row of what an account was and is, with a link to the account."""
+    number = row[0].removeprefix("account ")
+    return (link(f"/accounts/{number}", row[0]) if number.isdigit() else row[0], *row[1:])
 
 
 def name(served: Served) -> Any:

@@ -48,7 +48,7 @@ AT_THE_DESK = {
     OTHER_FORM: "another form is chosen with the file",
     EMPTY_TABLE: "the page Hand in has empty tables", OTHER_HEADINGS: "the page Hand in has empty tables",
     MORE_WORK: "add working days (Change, the rules)", "--release releases it": "its box on the page Send releases it",
-    "nothing to change: ./day change --help tells what can be": "nothing to change: the form says what is there already",
+    "nothing to change: ./day change --help tells what can be": "nothing to change: the form says what is there",
     "./day label lists the names": "the page Accounts has the names",
     "settled by no proved engine, as far as the journal says": "days for which the journal names no proved engine",
 }  # fmt: skip
@@ -126,6 +126,28 @@ def side_by_side(rows: list[str]) -> list[tuple[str, str, str]]:
     return [(key[0], *pair_in_words(*both)) for key, both in found.items()]
 
 
+BESIDE = ["Of", "Before", "After"]
+# A row of a difference, as commands write it: behind the number of an account, or behind a line that names it.
+ROW = re.compile("(?:([0-9]+): | *)?([-+] [a-z]+,.*)")
+ABOUT = re.compile(".*account ([0-9]+), which stands in .*|by hand: .*")
+
+
+def apart(lines: list[str]) -> tuple[list[str], list[tuple[str, str, str]]]:
+    """Lines of a command or notes: those in words, and what rows of a difference among them say, side by side."""
+    told: list[str] = []
+    rows, about = [], ""
+    for line in lines:
+        row = ROW.fullmatch(line)
+        if row:
+            number = row[1] or about
+            rows.append(f"{number}: {row[2]}" if number else row[2])
+        else:
+            named = ABOUT.fullmatch(line)
+            about = (named[1] or "") if named else about
+            told.append(line)
+    return told, side_by_side(rows)
+
+
 def key_length(tag: str) -> int:
     """How many fields say which row of a list it is."""
     return {"account": 0, "lags": 0, "current": 0, "format": 0, "surrender": 2, "retired": 1}.get(tag, 1)
@@ -153,7 +175,8 @@ def seen(text: str, office: str) -> str:
     files of the folder begin in it, times are of this machine, and a page is named where a command was."""
     for what, here in AT_THE_DESK.items():
         text = text.replace(what, here)
-    text = re.sub(f"(?:--office )?{re.escape(markup(office))}(?!/)", "the folder", text.replace(f"{markup(office)}/", ""))
+    text = text.replace(f"{markup(office)}/", "")
+    text = re.sub(f"(?:--office )?{re.escape(markup(office))}", "the folder", text)
     # (what stands in a tag, as what was typed into a field, stays)
     parts = re.split("(<[^>]*>)", text)
     text = "".join(part if part.startswith("<") else in_office_words(part) for part in parts)
@@ -165,7 +188,7 @@ def in_office_words(text: str) -> str:
     """A text without commands and their options: a page is named where a command was, and a document is a link."""
     text = COMMAND.sub(page_of, AMOUNT.sub("a whole number without separators, as 1000", text))
     text = OPTION.sub(lambda found: OPTIONS.get(found[1], found[1].replace("-", " ")), text)
-    return DOCUMENT.sub(lambda found: f'<a href="/{found[1].lower()}.html{found[2] or ""}">{found[1].lower()}</a>', text)
+    return DOCUMENT.sub(lambda own: f'<a href="/{own[1].lower()}.html{own[2] or ""}">{own[1].lower()}</a>', text)
 
 
 def page_of(found: re.Match[str]) -> str:
