@@ -128,7 +128,7 @@ def side_by_side(rows: list[str]) -> list[tuple[str, str, str]]:
 
 BESIDE = ["Of", "Before", "After"]
 # A row of a difference, as commands write it: behind the number of an account, or behind a line that names it.
-ROW = re.compile("(?:([0-9]+): | *)?([-+] [a-z]+,.*)")
+ROW = re.compile("(by hand: the rules: )?(?:([0-9]+): | *)([-+] (?!do,|log,)[a-z]+,.*)")
 ABOUT = re.compile(".*account ([0-9]+), which stands in .*|by hand: .*")
 
 
@@ -139,8 +139,8 @@ def apart(lines: list[str]) -> tuple[list[str], list[tuple[str, str, str]]]:
     for line in lines:
         row = ROW.fullmatch(line)
         if row:
-            number = row[1] or about
-            rows.append(f"{number}: {row[2]}" if number else row[2])
+            number = "" if row[1] else row[2] or about
+            rows.append(f"{number}: {row[3]}" if number else row[3])
         else:
             named = ABOUT.fullmatch(line)
             about = (named[1] or "") if named else about
