@@ -55,7 +55,7 @@ def today(served: Served) -> Any:
         missed=due.missed_days(office), taken=handed_in.taken, holder=own.holder(), dates=own.dates(),
         coming=due.next_dates(office, MOST_COMING), faults=[*office.changed_files(last)] if last else [],
         new=new_of(own) if items or waits else [], seconds=[*awaited.all_waiting(office, handed_in)],
-        forged=approvals.all_approvals(office).faults,
+        forged=approvals.all_approvals(office).faults, doubts=due.doubts_of_last(office),
     )  # fmt: skip
 
 
@@ -152,8 +152,9 @@ def close(served: Served) -> Any:
     except (WordsFault, FileFault) as fault:
         why, notes = str(fault), []
     return show_page(
-        "close", "Close", date=date, dates=dates, why=why, own=outcome_of, notes=notes,
-        alerts=[note for note in notes if note.startswith(LOOK)],
+        "close", "Close", date=date, dates=dates, why=why, own=outcome_of,
+        notes=[note for note in notes if not note.startswith(LOOK)],
+        alerts=[note.removeprefix(f"{LOOK}: ") for note in notes if note.startswith(LOOK)], unsaid=asked("unsaid"),
         totals=[*totals_of(outcome_of)] if outcome_of else [], settler=settler(own),
         asks_second=not own.office().settings.program and not installed.program() and find_library() is None,
     )  # fmt: skip
@@ -166,9 +167,7 @@ def settler(own: Reading) -> str:
         return f"the program {program}"
     if find_library():
         return "the library"
-    if installed.is_checkout():
-        return "./run, which builds the program first if it is not there"
-    return ""
+    return "./run, which builds the program first if it is not there" if installed.is_checkout() else ""
 
 
 def totals_of(own: closing.Outcome) -> Iterator[tuple[str, str, str, str, str]]:

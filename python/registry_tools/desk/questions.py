@@ -101,7 +101,6 @@ def compliance(served: Served) -> Any:
     year = number_asked("year") or answers.last_year_over(settled.head)
     word = asked("deadline")
     deadline = date_of("the deadline", word) if word else served.reading.office().settings.due.surrender_of(year)
-
     rows = standings_of(served, settled, year)
     return show_page(
         "compliance", f"Compliance for {year}", year=year, deadline=word, rows=[*map(row_of_standing, rows)],
