@@ -6,16 +6,15 @@ from werkzeug.exceptions import NotFound
 
 from registry_tools.calendars.dates import date_of
 from registry_tools.calendars.due_days import NOT_DUE
-from registry_tools import installed
 from registry_tools.desk import forms, gate, tables
 from registry_tools.desk.reading import Reading
 from registry_tools.desk.served import Served
-from registry_tools.desk.shown import asked, number_asked, outcome, show_page, whys
+from registry_tools.desk.shown import asked, number_asked, outcome, row_of_taken, show_page, whys
 from registry_tools.desk.words import item_in_words, local
-from registry_tools.engine import find_library
 from registry_tools.errors import FileFault, WordsFault
 from registry_tools.notes import LOOK
-from registry_tools.office import approvals, awaited, close as closing, handed, release
+from registry_tools.office import approvals, awaited, close as closing, handed, release, taken
+from registry_tools.office.settling import BY_RUN, settler_in_words
 from registry_tools.office.trial import Looked
 from registry_tools.office.waits import waits_of
 from registry_tools.pages import html, summary
@@ -29,6 +28,7 @@ from registry_tools.sheets import form
 from registry_tools.tables import RIGHTS
 from registry_tools.texts.in_words import grouped, instruction_in_words
 
+TAKEN = ["Place", "What", "Who took it back", "At", "Why"]
 NAMES_OF_SUMS = ("held", "surrendered", "deleted")
 # What there are empty tables of; and how the last day of a year may be written in a spreadsheet.
 EMPTY = [own for own in form.WHAT if own != form.LABELS]
@@ -52,10 +52,10 @@ def today(served: Served) -> Any:
     ]
     return show_page(
         "today", "Today", last=last, is_released=office.journal.is_released(), items=items, waits=waits,
-        missed=due.missed_days(office), taken=handed_in.taken, holder=own.holder(), dates=own.dates(),
+        missed=due.missed_days(office), taken=[*map(row_of_taken, taken.of_next(handed_in))], holder=own.holder(),
         coming=due.next_dates(office, MOST_COMING), faults=[*office.changed_files(last)] if last else [],
         new=new_of(own) if items or waits else [], seconds=[*awaited.all_waiting(office, handed_in)],
-        forged=approvals.all_approvals(office).faults, doubts=due.doubts_of_last(office),
+        forged=approvals.all_approvals(office).faults, dates=own.dates(), doubts=due.doubts_of_last(office),
     )  # fmt: skip
 
 
@@ -88,15 +88,15 @@ def next_day(served: Served) -> Any:
         "new": lambda tried: tried.is_new,
     }  # fmt: skip
     shown = [tried for tried in looked if only not in kinds or kinds[only](tried)]
-    others = [
-        (item.place, item_in_words(item), item.part.name, item.part.who)
-        for item in served.reading.office().handed_in().items(handed.CHANGES, handed.EDITS, handed.WORK)
-    ]
+    handed_in = served.reading.office().handed_in()
+    items, gone = handed_in.items(handed.CHANGES, handed.EDITS, handed.WORK), taken.of_next(handed_in)
+    others = [(item.place, item_in_words(item), item.part.name, item.part.who) for item in items]
     counts = {name: sum(map(is_so, looked)) for name, is_so in kinds.items()}
     rows = [(tried.place or 0, tried.words, tried.said(), tried) for tried in shown]
     return show_page(
         "next", "The next day", date=own.date, rows=rows, shown_row=row_of_looked(served), only=only, counts=counts,
-        all=len(looked), whys=whys(shown), notes=[*own.notes, *otherwise], others=others, shown_other=with_box(served),
+        all=len(looked), whys=whys(shown), notes=[*own.notes, *otherwise], others=others,
+        shown_other=lambda row: (box(served, row[0]), *row[1:]), taken=[*map(row_of_taken, gone)],
     )  # fmt: skip
 
 
@@ -108,11 +108,6 @@ def row_of_looked(served: Served) -> Callable[[Sequence[Any]], Sequence[Any]]:
         return box(served, place) if place else "waited", said, outcome(tried), "new" if tried.is_new else ""
 
     return cells
-
-
-def with_box(served: Served) -> Callable[[Sequence[Any]], Sequence[Any]]:
-    """What shows a row behind a box that chooses it."""
-    return lambda row: (box(served, row[0]), *row[1:])
 
 
 def box(served: Served, place: int) -> object:
@@ -144,7 +139,7 @@ def change(served: Served) -> Any:
 def close(served: Served) -> Any:
     """The page that asks whether the next day is settled."""
     own, why, outcome_of = served.reading, "", None
-    dates = own.dates()
+    dates, settler = own.dates(), settler_in_words(own.office().settings.program)
     date = asked("other") or asked("date") or str(dates[0])
     try:
         outcome_of, left = own.closing(date)
@@ -155,19 +150,8 @@ def close(served: Served) -> Any:
         "close", "Close", date=date, dates=dates, why=why, own=outcome_of,
         notes=[note for note in notes if not note.startswith(LOOK)],
         alerts=[note.removeprefix(f"{LOOK}: ") for note in notes if note.startswith(LOOK)], unsaid=asked("unsaid"),
-        totals=[*totals_of(outcome_of)] if outcome_of else [], settler=settler(own),
-        asks_second=not own.office().settings.program and not installed.program() and find_library() is None,
+        totals=[*totals_of(outcome_of)] if outcome_of else [], settler=settler, asks_second=settler in ("", BY_RUN),
     )  # fmt: skip
-
-
-def settler(own: Reading) -> str:
-    """What settles the day, in words; nothing, if only the second answer does."""
-    program = own.office().settings.program or installed.program()
-    if program:
-        return f"the program {program}"
-    if find_library():
-        return "the library"
-    return "./run, which builds the program first if it is not there" if installed.is_checkout() else ""
 
 
 def totals_of(own: closing.Outcome) -> Iterator[tuple[str, str, str, str, str]]:
@@ -175,8 +159,7 @@ def totals_of(own: closing.Outcome) -> Iterator[tuple[str, str, str, str, str]]:
     for kind in rules.KINDS:
         for name in NAMES_OF_SUMS:
             before, after = (getattr(sums[kind], name) for sums in (own.before, own.after))
-            more = f"{after - before:+,}" if after != before else ""
-            yield kind, name, grouped(before), grouped(after), more
+            yield kind, name, grouped(before), grouped(after), f"{after - before:+,}" if after != before else ""
 
 
 def days(served: Served) -> Any:
@@ -226,6 +209,9 @@ def parts_of(settled: Settled, own: Reading) -> list[Markup]:
         parts.append(tables.sorted_table("Waiting", summary.WAITING_COLUMNS, waiting, name="waits-"))
     by_hand = own.by_hand(settled.head.date)
     told = by_hand_parts(settled, by_hand) if by_hand.rows is not None else [html.paragraph("This is the first day.")]
+    gone = [*map(row_of_taken, taken.of_day(own.office(), settled.head.date))]
+    if gone:
+        parts.append(tables.sorted_table("Taken back before", TAKEN, gone, ["Place"], name="taken-"))
     return [*parts, *summary.totals_parts(settled), tag("h2", "Changed by hand"), *told]
 
 
