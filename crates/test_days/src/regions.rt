@@ -171,9 +171,10 @@ do,2025-03-31,101,102,transfer,1,75,general,1
 do,2025-03-31,101,102,surrender,9,general,1
 ";
 
+// Each account is a region: two of the six instructions share one.
 #[test]
-fn six_bundles_run_at_once_in_a_book_of_five_accounts(rt: HostRuntime) {
-    let gate = Meeting::of(6);
+fn five_regions_run_at_once_in_a_book_of_five_accounts(rt: HostRuntime) {
+    let gate = Meeting::of(5);
     let told = shifts(&rt, rt.alloc(), LAST, 8, &gate);
     assert_eq!(rt; gate.missed.load(Ordering::SeqCst), 0, "{told}");
 }
