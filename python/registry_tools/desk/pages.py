@@ -165,8 +165,8 @@ def totals_of(own: closing.Outcome) -> Iterator[tuple[str, str, str, str, str]]:
 def days(served: Served) -> Any:
     """The page of all settled days."""
     office = served.reading.office()
-    events = [*reversed(office.journal.filed())]
-    rows = [(str(own.date), own.who, local(own.at), own.next - own.first) for own in events]
+    told = release.days_told(office)
+    rows = [(str(own.date), own.who, local(own.at), own.next - own.first, *more) for own, *more in told]
     last = office.last()
     return show_page(
         "days", "Days", rows=rows, last=last, is_released=office.journal.is_released(),
