@@ -95,9 +95,7 @@ def name_of_proxy(served: Served) -> str:
 
 def known_name(served: Served) -> str:
     """Who works at this browser; nothing, if it was not said yet."""
-    if served.header is not None:
-        return name_of_proxy(served)
-    return served.who or str(flask.session.get("who", ""))
+    return name_of_proxy(served) if served.header is not None else served.who or str(flask.session.get("who", ""))
 
 
 def speaks_for(served: Served, who: str) -> list[str]:

@@ -6,17 +6,16 @@ from werkzeug.exceptions import NotFound
 
 from registry_tools.calendars.dates import date_of
 from registry_tools.calendars.due_days import NOT_DUE
-from registry_tools import installed
 from registry_tools.desk import forms, gate, tables
 from registry_tools.desk.reading import Reading
 from registry_tools.desk.served import Served
-from registry_tools.desk.shown import asked, number_asked, outcome, show_page, whys
+from registry_tools.desk.shown import asked, number_asked, outcome, row_of_taken, show_page, whys
 from registry_tools.desk.words import BESIDE, item_in_words, local, side_by_side
-from registry_tools.engine import find_library
 from registry_tools.errors import FileFault, WordsFault
 from registry_tools.notes import LOOK
-from registry_tools.office import approvals, awaited, close as closing, handed, release
+from registry_tools.office import approvals, awaited, close as closing, handed, release, taken
 from registry_tools.office.changes import listing
+from registry_tools.office.settling import BY_RUN, settler_in_words
 from registry_tools.office.trial import Looked
 from registry_tools.office.waits import waits_of
 from registry_tools.pages import html, summary
@@ -31,6 +30,7 @@ from registry_tools.tables import RIGHTS
 from registry_tools.texts.in_words import grouped, instruction_in_words
 from registry_tools.texts.report import LogRow
 
+TAKEN = ["Place", "What", "Who took it back", "At", "Why"]
 NAMES_OF_SUMS = ("held", "surrendered", "deleted")
 # What there are empty tables of; and how the last day of a year may be written in a spreadsheet.
 EMPTY = [own for own in form.WHAT if own != form.LABELS]
@@ -54,10 +54,10 @@ def today(served: Served) -> Any:
     ]
     return show_page(
         "today", "Today", last=last, is_released=office.journal.is_released(), items=items, waits=waits,
-        missed=due.missed_days(office), taken=handed_in.taken, holder=own.holder(), dates=own.dates(),
+        missed=due.missed_days(office), taken=[*map(row_of_taken, taken.of_next(handed_in))], holder=own.holder(),
         coming=due.next_dates(office, MOST_COMING), faults=[*office.changed_files(last)] if last else [],
         new=new_of(own) if items or waits else [], seconds=[*awaited.all_waiting(office, handed_in)],
-        forged=approvals.all_approvals(office).faults,
+        forged=approvals.all_approvals(office).faults, dates=own.dates(), doubts=due.doubts_of_last(office),
     )  # fmt: skip
 
 
@@ -90,15 +90,15 @@ def next_day(served: Served) -> Any:
         "new": lambda tried: tried.is_new,
     }  # fmt: skip
     shown = [tried for tried in looked if only not in kinds or kinds[only](tried)]
-    others = [
-        (item.place, item_in_words(item), item.part.name, item.part.who)
-        for item in served.reading.office().handed_in().items(handed.CHANGES, handed.EDITS, handed.WORK)
-    ]
+    handed_in = served.reading.office().handed_in()
+    items, gone = handed_in.items(handed.CHANGES, handed.EDITS, handed.WORK), taken.of_next(handed_in)
+    others = [(item.place, item_in_words(item), item.part.name, item.part.who) for item in items]
     counts = {name: sum(map(is_so, looked)) for name, is_so in kinds.items()}
     rows = [(tried.place or 0, tried.words, tried.said(), tried) for tried in shown]
     return show_page(
         "next", "The next day", date=own.date, rows=rows, shown_row=row_of_looked(served), only=only, counts=counts,
-        all=len(looked), whys=whys(shown), notes=[*own.notes, *otherwise], others=others, shown_other=with_box(served),
+        all=len(looked), whys=whys(shown), notes=[*own.notes, *otherwise], others=others,
+        shown_other=lambda row: (box(served, row[0]), *row[1:]), taken=[*map(row_of_taken, gone)],
     )  # fmt: skip
 
 
@@ -110,11 +110,6 @@ def row_of_looked(served: Served) -> Callable[[Sequence[Any]], Sequence[Any]]:
         return box(served, place) if place else "waited", said, outcome(tried), "new" if tried.is_new else ""
 
     return cells
-
-
-def with_box(served: Served) -> Callable[[Sequence[Any]], Sequence[Any]]:
-    """What shows a row behind a box that chooses it."""
-    return lambda row: (box(served, row[0]), *row[1:])
 
 
 def box(served: Served, place: int) -> object:
@@ -147,7 +142,7 @@ def change(served: Served) -> Any:
 def close(served: Served) -> Any:
     """The page that asks whether the next day is settled."""
     own, why, outcome_of = served.reading, "", None
-    dates = own.dates()
+    dates, settler = own.dates(), settler_in_words(own.office().settings.program)
     date = asked("other") or asked("date") or str(dates[0])
     try:
         outcome_of, left = own.closing(date)
@@ -155,23 +150,11 @@ def close(served: Served) -> Any:
     except (WordsFault, FileFault) as fault:
         why, notes = str(fault), []
     return show_page(
-        "close", "Close", date=date, dates=dates, why=why, own=outcome_of, notes=notes,
-        alerts=[note for note in notes if note.startswith(LOOK)],
-        totals=[*totals_of(outcome_of)] if outcome_of else [], settler=settler(own),
-        asks_second=not own.office().settings.program and not installed.program() and find_library() is None,
+        "close", "Close", date=date, dates=dates, why=why, own=outcome_of,
+        notes=[note for note in notes if not note.startswith(LOOK)],
+        alerts=[note.removeprefix(f"{LOOK}: ") for note in notes if note.startswith(LOOK)], unsaid=asked("unsaid"),
+        totals=[*totals_of(outcome_of)] if outcome_of else [], settler=settler, asks_second=settler in ("", BY_RUN),
     )  # fmt: skip
-
-
-def settler(own: Reading) -> str:
-    """What settles the day, in words; nothing, if only the second answer does."""
-    program = own.office().settings.program or installed.program()
-    if program:
-        return f"the program {program}"
-    if find_library():
-        return "the library"
-    if installed.is_checkout():
-        return "./run, which builds the program first if it is not there"
-    return ""
 
 
 def totals_of(own: closing.Outcome) -> Iterator[tuple[str, str, str, str, str]]:
@@ -179,15 +162,14 @@ def totals_of(own: closing.Outcome) -> Iterator[tuple[str, str, str, str, str]]:
     for kind in rules.KINDS:
         for name in NAMES_OF_SUMS:
             before, after = (getattr(sums[kind], name) for sums in (own.before, own.after))
-            more = f"{after - before:+,}" if after != before else ""
-            yield kind, name, grouped(before), grouped(after), more
+            yield kind, name, grouped(before), grouped(after), f"{after - before:+,}" if after != before else ""
 
 
 def days(served: Served) -> Any:
     """The page of all settled days."""
     office = served.reading.office()
-    events = [*reversed(office.journal.filed())]
-    rows = [(str(own.date), own.who, local(own.at), own.next - own.first) for own in events]
+    told = release.days_told(office)
+    rows = [(str(own.date), own.who, local(own.at), own.next - own.first, *more) for own, *more in told]
     last = office.last()
     return show_page(
         "days", "Days", rows=rows, last=last, is_released=office.journal.is_released(),
@@ -235,6 +217,9 @@ def parts_of(settled: Settled, own: Reading) -> list[Markup]:
         parts.append(tables.sorted_table("Refused", columns, refused, ["How many"], name="why-"))
     if waiting:
         parts.append(tables.sorted_table("Waiting", summary.WAITING_COLUMNS, waiting, name="waits-"))
+    gone = [*map(row_of_taken, taken.of_day(own.office(), settled.head.date))]
+    if gone:
+        parts.append(tables.sorted_table("Taken back before", TAKEN, gone, ["Place"], name="taken-"))
     return [*parts, *summary.totals_parts(settled), tag("h2", "Changed by hand"), *by_hand_told(settled, own)]
 
 

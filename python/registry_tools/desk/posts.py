@@ -164,7 +164,9 @@ def make_change(served: Served) -> Any:
 
 
 def settle(served: Served) -> Any:
-    """Has the next day settled and filed."""
+    """Has the next day settled and filed. What is to be looked at first wants a yes of its own."""
+    if form("doubts") and not form("yes"):
+        return flask.redirect(tables.address_of("/close", {"date": form("date"), "unsaid": 1}), 303)
     words = [f"--{name}" for name in ("second", "yes") if form(name)]
     return do(served, "close", f"--date={form('date')}", *words)
 

@@ -13,11 +13,12 @@ from werkzeug.wrappers import Response
 from registry_tools.calendars.dates import date_of
 from registry_tools.calendars.due_days import NOT_DUE
 from registry_tools.desk.served import Served
-from registry_tools.desk.shown import TYPED, asked, number_asked, show_page
+from registry_tools.desk.shown import TYPED, asked, number_asked, row_of_taken, show_page
 from registry_tools.desk.waiting import WAITS, with_due_day
 from registry_tools.desk.words import item_in_words, local, words_of_row
 from registry_tools.errors import FOUND, WordsFault
 from registry_tools.notes import BY_HAND
+from registry_tools.office import taken
 from registry_tools.office.approvals import ASKED_FOR
 from registry_tools.office.changes import listing
 from registry_tools.office.labels import ACCOUNT
@@ -103,7 +104,6 @@ def compliance(served: Served) -> Any:
     year = number_asked("year") or answers.last_year_over(settled.head)
     word = asked("deadline")
     deadline = date_of("the deadline", word) if word else served.reading.office().settings.due.surrender_of(year)
-
     rows = standings_of(served, settled, year)
     return show_page(
         "compliance", f"Compliance for {year}", year=year, deadline=word, rows=[*map(row_of_standing, rows)],
@@ -126,10 +126,9 @@ COLUMNS = ["Account", "Holder", "Surrendered", "Emissions", "Surrendered of emis
 
 def row_of_standing(own: answers.Standing) -> tuple[Any, ...]:
     """What a row is sorted by."""
-    account = own.account
+    figure, of = "" if own.figure is None else own.figure, own.account
     share = own.surrendered - own.emissions
-    figure = "" if own.figure is None else own.figure
-    return account.number, account.holder, own.surrendered, own.emissions, share, figure, own.verdict, own
+    return of.number, of.holder, own.surrendered, own.emissions, share, figure, own.verdict, own
 
 
 def cells_of_standing(settled: Settled, own: answers.Standing) -> Sequence[Any]:
@@ -247,7 +246,8 @@ def journal(served: Served) -> Any:
         (day, local(own.part.at), own.part.who, own.part.name, item_in_words(own))
         for day, own in listing.items_of(office)
     ]
-    return show_page("journal", "Journal", events=events, by_hand=[*reversed(by_hand)])
+    gone = [(day, *row_of_taken(own)) for day, own in taken.of_all(office)]
+    return show_page("journal", "Journal", events=events, by_hand=[*reversed(by_hand)], taken=[*reversed(gone)])
 
 
 # What takes long.

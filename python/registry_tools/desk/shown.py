@@ -7,7 +7,7 @@ from werkzeug.wrappers import Response
 
 from registry_tools.desk import words
 from registry_tools.errors import WordsFault
-from registry_tools.office import trial
+from registry_tools.office import taken, trial
 from registry_tools.pages import html
 from registry_tools.texts.checks import advice_for, checks
 
@@ -41,6 +41,12 @@ def number_asked(name: str) -> int | None:
 def outcome(own: trial.Looked) -> object:
     """The outcome of an instruction; strong, if it is refused."""
     return html.tag("strong", own.said()) if own.is_refused else own.said()
+
+
+def row_of_taken(own: taken.TakenBack) -> tuple[object, ...]:
+    """What was taken back: its place, what it was or, behind the close, its file, who did it, when and why."""
+    what = words.item_in_words(own.item) if own.item else f"a row of {own.part.name}" if own.part else ""
+    return own.taken.place, what, own.taken.who, words.local(own.taken.at), own.taken.why
 
 
 def whys(looked: list[trial.Looked]) -> dict[str, str]:

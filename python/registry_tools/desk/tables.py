@@ -1,5 +1,5 @@
 """Tables that go on in pages and are sorted by their columns. Page and order stand in the address, so that a link shows
-the same to a colleague."""
+the same to a colleague. The answer to a form has no such address: its tables have their first rows, and no links."""
 import re
 import urllib.parse
 from typing import Any, Callable, Collection, Sequence
@@ -66,9 +66,10 @@ def sorted_table(
     last = max(-(-len(rows) // ROWS), 1)
     number = min(max(flask.request.args.get(page, 1, type=int), 1), last)
     part = [["" if cell is None else cell for cell in show(row)] for row in rows[(number - 1) * ROWS : number * ROWS]]
-    own = Table(columns, right, heads=heads(columns, sort, word) if len(rows) > 1 else None)
-    counted = f"{caption} ({len(rows):,})" if last > 1 else caption
-    return joined(own.of(counted, part), *([ways(page, number, last)] if last > 1 else []))
+    has_links = flask.request.method != "POST"
+    own = Table(columns, right, heads=heads(columns, sort, word) if has_links and len(rows) > 1 else None)
+    counted = f"{caption} ({'' if has_links else f'the first {ROWS} of '}{len(rows):,})" if last > 1 else caption
+    return joined(own.of(counted, part), *([ways(page, number, last)] if has_links and last > 1 else []))
 
 
 def ways(page: str, number: int, last: int) -> Markup:

@@ -153,7 +153,7 @@ def first_day(first: DayText, handed_in: HandedIn, date: datetime.date) -> NextD
 def about_first(first: DayText, new: list[Item]) -> Iterator[str]:
     """What is to be told of the first day, as of a later one: of its date, its calendar, and what was handed in."""
     notes = Notes()
-    notes.warn(*next_day.about_weekday(first.head))
+    notes.warn(*next_day.about_date(None, first.head.date, first.head.working_days))
     calendars.look_at_calendar(first.head, first.book, notes, "./day init takes a first text with more work rows")
     for name, items in itertools.groupby(new, lambda item: item.part.name):
         own = [*items]
@@ -204,7 +204,7 @@ def later_text(
         if not difference[2:].startswith(("day,", "work,"))
     ]
     head = replace(head, accounts=Accounts(book))
-    notes.warn(*next_day.about_date(day, head), *about_past(day, calendar, head))
+    notes.warn(*next_day.about_date(day.head.date, date, head.working_days), *about_past(day, calendar, head))
     calendars.look_at_calendar(head, book, notes)
     waiting = next_day.waiting_after(day, report, pending.read_pending(waits), date, notes)
     entered = next_day.enter_due(head, waiting, notes)

@@ -18,7 +18,7 @@ import argparse
 import dataclasses
 import datetime
 import sys
-from typing import Iterator
+from typing import Collection, Iterator
 
 from registry_tools import tables
 from registry_tools.calendars.dates import date_of
@@ -203,16 +203,13 @@ def in_order(first: str, second: str, notes: Notes) -> tuple[str, str]:
     return first, second
 
 
-def about_weekday(head: rules.Day) -> Iterator[str]:
-    """Tells if the day is no working day."""
-    if head.date not in head.working_days:
-        yield f"{head.date:%A} {head.date} is no working day by the calendar"
-
-
-def about_date(before: DayText, head: rules.Day) -> Iterator[str]:
-    """Tells if the day is no working day, and which working days lie between."""
-    yield from about_weekday(head)
-    between = [skipped for skipped in head.working_days if before.head.date < skipped < head.date]
+def about_date(
+    before: datetime.date | None, date: datetime.date, calendar: Collection[datetime.date]
+) -> Iterator[str]:
+    """Tells if a day is no working day, and which working days lie between it and the day before, if there is one."""
+    if date not in calendar:
+        yield f"{date:%A} {date} is no working day by the calendar"
+    between = [skipped for skipped in calendar if before and before < skipped < date]
     if between:
         yield f"working days that have no text: {days_in_words(between)}"
 
@@ -225,7 +222,7 @@ def next_head(
     calendar = next_calendar(day, words.work, notes)
     book = book_with_changes(day, report, words.changes, notes)
     head = dataclasses.replace(day.head, date=date, working_days=calendar, accounts=Accounts(book))
-    notes.lines += about_date(day, head)
+    notes.lines += about_date(day.head.date, head.date, calendar)
     look_at_calendar(head, book, notes)
     return head, book
 

@@ -6,6 +6,8 @@ A day whose report nothing proves, since no proved engine settled it, is release
 exit status: 0 if the day is released, 1 if --yes has to say so.
 """
 import argparse
+import datetime
+from typing import Iterator
 
 from registry_tools.calendars import dates
 from registry_tools.errors import FOUND, WordsFault
@@ -69,6 +71,14 @@ def release(said: argparse.Namespace, day: Event, who: str, why: str) -> None:
         if not office.journal.is_released(there) and not is_kept(office, there, who, why):
             raise WordsFault(f"{day.date} is not released yet, and nothing was made")
     folder.to_errors(f"{day.date} is released: it is not undone any more")
+
+
+def days_told(office: Office) -> Iterator[tuple[Event, str, str]]:
+    """The days of a folder, the last one first, each with what settled it and whether others know of it, in words."""
+    released = {event.date for event in office.journal.events if event.event == RELEASED}
+    last = max(released, default=datetime.date.min)
+    for day in reversed(office.journal.filed()):
+        yield day, str(settling.engine_named(day.engine) or "not told"), "yes" if day.date <= last else "no"
 
 
 def doubt_of(day: Event) -> str:

@@ -21,6 +21,7 @@ from registry_tools.questions.verify import expected_rows
 from registry_tools.texts.day_text import DayText
 
 RUN = installed.SCRIPT
+BY_RUN = f"{RUN}, which builds the program first if it is not there"
 PROGRAM, LIBRARY, SECOND = "program", "library", "second"
 PROVED, UNPROVED, UNKNOWN = "proved", "unproved", "-"
 IN_WORDS = {PROGRAM: "the program", LIBRARY: "the library", SECOND: "the second answer alone"}
@@ -119,6 +120,16 @@ def by_engine(named: str, text: bytes, path: str | Path = "") -> bytes:
         return library.settle(text)
     except NotSettled as fault:
         raise FileFault(library.name, 0, "", f"settle{whose}: {fault}", "") from None
+
+
+def settler_in_words(named: str) -> str:
+    """What settles a day by these words, for people; nothing, if only the second answer does."""
+    program = named or installed.program()
+    if program:
+        return f"the program {program}"
+    if find_library():
+        return "the library"
+    return BY_RUN if installed.is_checkout() else ""
 
 
 def by_program(program: str, text: bytes, whose: str) -> bytes:

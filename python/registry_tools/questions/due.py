@@ -29,6 +29,7 @@ from registry_tools.notes import counted
 from registry_tools.office import composing, folder, labels, naming, past, words
 from registry_tools.office.folder import Office
 from registry_tools.office.labels import Labels
+from registry_tools.office.next import about_date
 from registry_tools.office.waits import waits_of
 from registry_tools.output import NewFile
 from registry_tools.questions.compliance import NO_EMISSIONS, SETTLED, Standing, standings
@@ -172,6 +173,17 @@ def missed_days(office: Office) -> list[datetime.date]:
     last, today = office.last(), datetime.date.today()
     with contextlib.suppress(FileFault):
         return [own for own in composing.filed_calendar(office, last) if last.date < own < today] if last else []
+    return []
+
+
+def doubts_of_last(office: Office) -> list[str]:
+    """What is to be known of the date of the last day: that it is no working day, and which working days before it have
+    no text. None, if its text cannot be read, which is told as a fault."""
+    dates = [event.date for event in office.journal.filed()[-2:]]
+    with contextlib.suppress(FileFault):
+        if dates:
+            calendar = composing.filed_calendar(office, office.journal.filed()[-1])
+            return [*about_date(dates[0] if len(dates) > 1 else None, dates[-1], calendar)]
     return []
 
 
