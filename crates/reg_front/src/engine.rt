@@ -2,7 +2,7 @@
 
 ghost use Rattle.std.specs.Prelude.{◌≡◌, true};
 ghost use Rattle.std.specs.Result.{result_err};
-ghost use Rattle.reg_regions.specs.Outcomes.{may_work};
+ghost use Rattle.reg_base.specs.Workers.{may_work};
 ghost use Rattle.reg_front.specs.Streams.{CanFail};
 ghost use Rattle.reg_front.specs.declared.command.Command.TheVariants.{Figures, Plan, Settle, Statement, Totals};
 ghost use Rattle.reg_front.specs.Runs.{CarriesOut};

@@ -3,7 +3,7 @@
 ghost use Rattle.std.specs.Prelude.{◌≡◌, ◌≤◌, ◌+◌, ◌++◌, [], true, None, IfOk, MatchResult};
 ghost use Rattle.reg_book.specs.Chains.{book_after};
 ghost use Rattle.reg_book.specs.Day.{day_of, settled_day, log_of, replies_of, rows_replied};
-ghost use Rattle.reg_regions.specs.Outcomes.{may_work};
+ghost use Rattle.reg_base.specs.Workers.{may_work};
 ghost use Rattle.reg_text.specs.Inputs.{day_of_input, day_of_parts};
 ghost use Rattle.reg_text.specs.NextDays.{report_of};
 ghost use Rattle.reg_text.specs.Pieces.{text_of_pieces};
