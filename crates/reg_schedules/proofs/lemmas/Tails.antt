@@ -196,6 +196,18 @@ module _ (tails : TailsAreLastTouchers) (last : LastToucherIsLast) (d : Director
       let k : last_toucher d is a (length is) ≡ suc (last_toucher d is a (length is) - 1) = omega arith in
       before_of d is a (last_toucher d is a (length is)) one ∙ l.toucher (last_toucher d is a (length is) - 1) k
 
+  -- the arrow from a tail
+  pub tail_inward : (a place : ℕ) → Touches d is a place → 1 ≤ tail_of plan place a
+      → (w : Arrow) × In w (inward plan.arrows place) × (w.from ≡ tail_of plan place a)
+  tail_inward a place on one =
+      let e = tail_is_last a place on in
+      let w : Arrow = record { to = place; from = last_toucher d is a (place - 1); account = a } in (
+        w,
+        in_filter (λ (v : Arrow). eqb v.to place) plan.arrows w (eq-eqb place place refl)
+            (from_last a place on (omega (arith, e, one))),
+        sym e,
+      )
+
   -- and every arrow to a place is from the tail at its account
   pub inward_tail : (place : ℕ) (w : Arrow) → In w (inward plan.arrows place) → Touches d is w.account place
       × (tail_of plan place w.account ≡ w.from) × (1 ≤ w.from)
