@@ -5,7 +5,7 @@ ghost use Rattle.std.specs.List.{flat_map};
 ghost use Rattle.reg_base.specs.declared.limits.TheConstants.{MOST_ACCOUNTS};
 ghost use Rattle.reg_account.specs.Account.{IsAccount};
 ghost use Rattle.reg_book.specs.Day.{rows_replied};
-ghost use Rattle.reg_book.specs.Parts.{joined};
+ghost use Rattle.reg_facts.specs.Lists.{joined_lists};
 ghost use Rattle.reg_book.specs.Totals.{totals_of};
 ghost use Rattle.reg_text.specs.Sections.{account_block};
 ghost use Rattle.reg_text.specs.Spelling.{book_rows};
@@ -27,8 +27,8 @@ use std::thread::Threads;
 
 // The blocks of the accounts of lists, and their totals.
 fn spell_lists(alloc: Global, lists: &[Vec<Account>]) -> Result<Blocks, NoMemory>
-    requires fit { All IsAccount (joined lists.now) }
-    requires few { length (joined lists.now) ≤ MOST_ACCOUNTS }
+    requires fit { All IsAccount (joined_lists lists.now) }
+    requires few { length (joined_lists lists.now) ≤ MOST_ACCOUNTS }
     ensures { IfOk result (AreBlocksOfLists 0 lists.now) }
 {
     let mut text = Text::with_room(alloc, room_for_lists(lists));
@@ -48,8 +48,8 @@ fn spell_all_lists<R: Threads + Sync>(
     size: usize,
 ) -> Result<Vec<Result<Blocks, NoMemory>>, AllocError>
     requires size { 0 < size }
-    requires fit { All IsAccount (joined lists.now) }
-    requires few { length (joined lists.now) ≤ MOST_ACCOUNTS }
+    requires fit { All IsAccount (joined_lists lists.now) }
+    requires few { length (joined_lists lists.now) ≤ MOST_ACCOUNTS }
     ensures len { IfOk result (λ runs. vec_len runs ≡ length lists.now / size + min 1 (length lists.now % size)) }
     ensures each { IfOk result (λ runs. MadeAt AreBlocksOfLists lists.now size runs.items) }
 {
@@ -59,8 +59,8 @@ fn spell_all_lists<R: Threads + Sync>(
         lists,
         size,
         &|_, run|
-            requires fit { All IsAccount (joined run.now) }
-            requires few { length (joined run.now) ≤ MOST_ACCOUNTS }
+            requires fit { All IsAccount (joined_lists run.now) }
+            requires few { length (joined_lists run.now) ≤ MOST_ACCOUNTS }
         { spell_lists(alloc, run) },
     )
 }
@@ -82,11 +82,11 @@ fn add_lists<R: Threads + Sync>(
     workers: usize,
 ) -> Result<BothTotals, NoMemory>
     requires workers { 1 ≤ workers }
-    requires fit { All IsAccount (joined lists.now) }
-    requires few { length (joined lists.now) ≤ MOST_ACCOUNTS }
+    requires fit { All IsAccount (joined_lists lists.now) }
+    requires few { length (joined_lists lists.now) ≤ MOST_ACCOUNTS }
     ensures text { OnOk result (text_of_pieces pieces.new.items
-        ≡ text_of_pieces pieces.old.items ++ text_of (flat_map account_block (joined lists.now))) }
-    ensures totals { IfOk result (λ totals. totals ≡ totals_of (joined lists.now)) }
+        ≡ text_of_pieces pieces.old.items ++ text_of (flat_map account_block (joined_lists lists.now))) }
+    ensures totals { IfOk result (λ totals. totals ≡ totals_of (joined_lists lists.now)) }
 {
     let size = lists_of_run(lists.len(), workers);
     let mut totals = BothTotals::none();
