@@ -1,0 +1,19 @@
+//! How long a report is at most. The law is the contract of a function that does nothing.
+
+ghost use Rattle.reg_text.specs.Most.{NoReportIsLonger};
+
+use reg_base::laws::each_footprint_is_sound;
+use reg_book::{closing_is_a_book, settled_is_closing, stays_ready};
+use reg_rules::step_laws;
+
+/// A report is at most eight times as long as its day text. Each row of the log comes of an instruction of the text, with
+/// the row that it may add to an account, and each other row of an account of a row of the text.
+pub fn no_report_is_longer()
+    ensures { NoReportIsLonger }
+{
+    step_laws();
+    each_footprint_is_sound();
+    stays_ready();
+    settled_is_closing();
+    closing_is_a_book();
+}
