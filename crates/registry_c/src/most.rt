@@ -1,5 +1,6 @@
 //! How much room a report needs at most.
 
+ghost use Rattle.std.specs.Prelude.{◌≡◌};
 ghost use Rattle.registry_c.specs.Most.{EachReportHasRoom, room_most};
 
 use reg_text::no_report_is_longer;
@@ -11,7 +12,7 @@ const MOST_TIMES: usize = 8;
 pub(crate) fn room_for_report(day_length: usize) -> usize
     ensures { result ≡ room_most day_length }
 {
-    day_length.saturating_mul(MOST_TIMES)
+    MOST_TIMES.saturating_mul(day_length)
 }
 
 /// In a room of [`registry_report_most`](crate::registry_report_most) bytes or more there is space for the whole report,
