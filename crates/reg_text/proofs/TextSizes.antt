@@ -56,8 +56,10 @@ ended a s c fields f rest p e = rw (← e) (omega (arith, after-byte a c fields 
 last : (fields : TextRow) (f : List ℕ) (p : Read) → (fields ++ f ∷ [], st.StartRecord, []) ≡ p → IsLast fields f [] p
 last fields f p e = rw (← e) (refl, refl, omega (arith, row_size-append fields (f ∷ [])))
 
+-- what holds behind a byte that ends no row holds before it
 more : (a : Action) (c : ℕ) (fields : TextRow) (f rest : List ℕ) (p : Read)
-    → IsEnded (fields_after a fields f) (field_after a c f) rest p ⊎ IsLast (fields_after a fields f) (field_after a c f) rest p
+    → IsEnded (fields_after a fields f) (field_after a c f) rest p
+    ⊎ IsLast (fields_after a fields f) (field_after a c f) rest p
     → IsEnded fields f (c ∷ rest) p ⊎ IsLast fields f (c ∷ rest) p
 more a c fields f rest p (inl h) = inl (omega (arith, h, after-byte a c fields f))
 more a c fields f rest p (inr h) = inr (h.0, h.1, omega (arith, h.2, after-byte a c fields f))
