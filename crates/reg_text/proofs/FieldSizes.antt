@@ -1,6 +1,6 @@
 -- How many bytes a field takes at most, and at least.
-use Rattle.std.proofs.Common.{ℕ, zero, suc, ◌+◌, ◌/◌, ◌%◌, ◌<◌, ◌≤◌, Bool, true, false, cond, eqb, List, [], ◌∷◌, length, refl}
-use Rattle.std.proofs.Common.{arith, ℤ, pos, negsuc, unsigned_abs, ◌≡◌, nat_le}
+use Rattle.std.proofs.Common.{ℕ, zero, suc, ◌+◌, ◌/◌, ◌%◌, ◌<◌, ◌≤◌, Bool, true, false, cond, eqb, List, [], ◌∷◌}
+use Rattle.std.proofs.Common.{length, refl, arith, ℤ, pos, negsuc, unsigned_abs, ◌≡◌, nat_le}
 use Rattle.std.specs.Fmt.{decimal, digit_glyph, digits, digits_onto, signed_decimal}
 use Rattle.std.proofs.lemmas.Bool.{leb-true}
 use Rattle.std.proofs.lemmas.Fmt.{length-decimal-le, length-decimal-le_wide}
@@ -67,7 +67,8 @@ sum-most n h = length-decimal-le_wide 21 n (omega arith) (omega (arith, h)) (ome
 
 signed-most : (z : ℤ) → unsigned_abs z ≤ 4_000_000_000_000_000 → length (signed_decimal z) ≤ 17
 signed-most (pos n) h = omega (arith, length-decimal-le 16 n (omega arith) (omega (arith, h)) (omega (arith, h)))
-signed-most (negsuc n) h = omega (arith, length-decimal-le 16 (suc n) (omega arith) (omega (arith, h)) (omega (arith, h)))
+signed-most (negsuc n) h =
+    omega (arith, length-decimal-le 16 (suc n) (omega arith) (omega (arith, h)) (omega (arith, h)))
 
 pub factor-most : (z : ℤ) → CorrectionFits z → length (signed_decimal z) ≤ 17
 factor-most z h = signed-most z (omega (arith, digits-range 1_000_000_000_000_000 z h.low h.high))

@@ -126,7 +126,8 @@ holdings-most s (a ∷ accounts) h k = omega (
 -- ---- the row of an instruction
 
 -- what the shares of a distribution take in the log, against what they take in their own row
-pairs-least : (xs : List Share) → each 44 xs ≤ 7 * row_size (pairs_spelled a_no any_number (map share_parts xs)) + each 16 xs
+pairs-least : (xs : List Share)
+    → each 44 xs ≤ 7 * row_size (pairs_spelled a_no any_number (map share_parts xs)) + each 16 xs
 pairs-least [] = omega arith
 pairs-least (x ∷ xs) = omega (arith, number-some x.to, number-some x.amount, pairs-least xs)
 
@@ -175,7 +176,8 @@ pub done-row : EachFootprintIsSound → (c : Setting) (number : ℕ) (s : State)
 done-row sound c number s i h all known shared =
     let reply = Done (closing c s i) (figure_now s i.act) in
     let touched = footprint c.directory i.act in
-    let own = all-or-none IsAccountNo (all_known c.directory i.act) (each_once (parties i.act)) (once-all IsAccountNo (parties i.act) known) in
+    let once = once-all IsAccountNo (parties i.act) known in
+    let own = all-or-none IsAccountNo (all_known c.directory i.act) (each_once (parties i.act)) once in
     omega (
       arith,
       row-size c number i reply h,

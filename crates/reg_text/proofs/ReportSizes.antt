@@ -46,7 +46,7 @@ use Rattle.reg_text.proofs.LogSizes.{done-row, refused-row}
 
 -- ---- the log and the accounts, instruction by instruction
 
-module _ (stays : StaysReadyInStep) (sound : EachFootprintIsSound) (c : Setting) (rules-are : AreRules c.rules) (day-is :
+module _ (stays : StaysReadyInStep) (sound : EachFootprintIsSound) (c : Setting) (ruled : AreRules c.rules) (day-is :
     IsDayNo c.day) where
   -- one instruction, whatever is replied
   step-size : (number : ℕ) (s : State) (i : Instruction) (r : Option Refusal) → number ≤ MOST_RECORD
@@ -68,7 +68,7 @@ module _ (stays : StaysReadyInStep) (sound : EachFootprintIsSound) (c : Setting)
   fold-size number s [] from last ready each shared = omega arith
   fold-size number s (i ∷ is) from last ready each shared =
       let small : number ≤ MOST_RECORD = omega arith in
-      let after = stays c s number i rules-are day-is (record { low = from; high = small }) each.0 ready in
+      let after = stays c s number i ruled day-is (record { low = from; high = small }) each.0 ready in
       omega (
         arith,
         step-size number s i (refusal c s i) small ready after each.0 shared.0,
@@ -77,7 +77,8 @@ module _ (stays : StaysReadyInStep) (sound : EachFootprintIsSound) (c : Setting)
 
 -- ---- the other rows of a report
 
-total-most : (b : BookValue) (f : AccountValue → ℕ) → IsBook b → ((v : AccountValue) → IsAccount v → f v ≤ 1_000_000_000_000_000)
+total-most : (b : BookValue) (f : AccountValue → ℕ) → IsBook b
+    → ((v : AccountValue) → IsAccount v → f v ≤ 1_000_000_000_000_000)
     → sum_by f b.accounts < 1_000_000_000_000_000_000_000
 total-most b f h each = omega (
   arith,

@@ -54,7 +54,8 @@ filled-block : (v : AccountValue) → AllByRecursion IsFilled (account_block v)
 filled-block v = (
   filled-tag tag.Account _,
   all-flat_map IsFilled (λ (t : Tag). each_row t (list_items t (lists_of v)))
-      (λ t. all-flat_map IsFilled (λ (x : Said t). tagged t x ∷ []) (λ x. (filled-tag t x, tt)) (list_items t (lists_of v)))
+      (λ t. all-flat_map IsFilled (λ (x : Said t). tagged t x ∷ []) (λ x. (filled-tag t x, tt))
+      (list_items t (lists_of v)))
       list_tags,
 )
 

@@ -89,7 +89,8 @@ IsGrown v w more = block_most (with_changes v w) ≤ block_most v + more
 listed-grown : (v : AccountValue) (other : ℕ) (day : Option ℕ) → IsGrown v (listed_from v other day) 29
 listed-grown v other None = omega arith
 listed-grown v other (Some day) =
-    omega (arith, placed 29 other (λ (t : TrustedEntry). t.account) (record { account = other; effective = day }) v.trusted)
+    let new : TrustedEntry = record { account = other; effective = day } in
+    omega (arith, placed 29 other (λ (t : TrustedEntry). t.account) new v.trusted)
 
 assessed-grown : (v : AccountValue) (year : ℕ) (figure : Result ℤ FigureFault) → IsGrown v (assessed v year figure) 30
 assessed-grown v year (Err fault) = omega arith

@@ -45,7 +45,7 @@ pub extern "C" fn registry_settle(alloc: Global, day: &[u8], room: &mut [u8]) ->
 }
 
 /// How many bytes the report of a day text of this length has at most: eight times as many, or the largest number if
-/// that is more. The law [`each_report_has_room`] says that one call of [`registry_settle`] with so much room is enough.
+/// that is more. By the law [`each_report_has_room`] one call of [`registry_settle`] with so much room is enough.
 #[unsafe(no_mangle)]
 pub extern "C" fn registry_report_most(day_length: usize) -> usize
     ensures { result ≡ room_most day_length }

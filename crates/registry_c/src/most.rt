@@ -15,7 +15,7 @@ pub(crate) fn room_for_report(day_length: usize) -> usize
     MOST_TIMES.saturating_mul(day_length)
 }
 
-/// In a room of [`registry_report_most`](crate::registry_report_most) bytes or more there is space for the whole report,
+/// A room of [`registry_report_most`](crate::registry_report_most) bytes or more has space for the whole report,
 /// whatever the day text is. So one call of [`registry_settle`](crate::registry_settle) is enough.
 pub fn each_report_has_room()
     ensures { EachReportHasRoom }
