@@ -210,8 +210,8 @@ fn settle<T: Threads + Wait + Sync, R: Source, W: Sink>(
     ensures { CarriesOut (Settle workers) (result_err result) (R.stream reader.old) (R.stream reader.new)
         (W.stream writer.old) (W.stream writer.new) }
 {
-    let (day, input) = read_input(rt, alloc, reader, threads_for(workers))?;
-    let used = make_report(rt, alloc, day, input, workers)?;
+    let (day, memory) = read_input(rt, alloc, reader, threads_for(workers))?;
+    let used = make_report(rt, alloc, day, memory, workers)?;
     if write_pieces(writer, used.pieces.as_slice(), used.text.as_slice()).is_err() {
         return Err(FrontFault::WriteFailed);
     }
@@ -232,8 +232,9 @@ fn answer<T: Threads + Sync, R: Source, W: Sink>(
         (W.stream writer.old) (W.stream writer.new) }
 {
     let threads = count_threads(rt);
-    let (day, input) = read_input(rt, alloc, reader, threads_for(threads))?;
-    let used = make_answer(rt, alloc, day, input, question, threads)?;
+    let (day, memory) = read_input(rt, alloc, reader, threads_for(threads))?;
+    let bytes = memory.into_text(alloc);
+    let used = make_answer(rt, alloc, day, bytes, question, threads)?;
     if write_all(writer, used.text.as_slice()).is_err() {
         return Err(FrontFault::WriteFailed);
     }

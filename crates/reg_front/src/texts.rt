@@ -19,6 +19,7 @@ ghost use Rattle.reg_front.specs.Runs.{command_fault, IsTextFor, IsCommandFault}
 
 use crate::command::Question;
 use crate::fault::FrontFault;
+use crate::memory::Memory;
 use reg_base::{AccountNo, Batch, NoMemory, Rules};
 use reg_book::{
     ClosedDay, ClosedParts, Parts, SettleFault, Settled, log_is_made_again, settle_in_place,
@@ -98,8 +99,8 @@ pub(crate) fn threads_for(workers: u32) -> usize
     workers.clamp(1, 8) as usize
 }
 
-/// The report of the day, settled by workers. One worker settles it on its own book, and its report takes the place of
-/// bytes that are no longer needed. Several workers also spell the report, in pieces; the bytes are given back before.
+/// The report of the day, settled by workers. One worker settles it on its own book, and several workers also spell the
+/// report, in pieces. Either report takes the memory of an input that lay as it does, which is no longer needed.
 ///
 /// # Errors
 /// `Workers` if the number of workers is not 1 to 8. Otherwise `NoMemory` if memory ran out. That a thread can't be
@@ -108,7 +109,7 @@ pub(crate) fn make_report<T: Threads + Sync>(
     rt: &T,
     alloc: Global,
     day: DayParts,
-    bytes: Vec<u8>,
+    memory: Memory,
     workers: u32,
 ) -> Result<Used, FrontFault>
     requires { day.batch.base + 1 ≡ day.parts.next }
@@ -118,9 +119,10 @@ pub(crate) fn make_report<T: Threads + Sync>(
         (IsCommandFault (Settle workers) day.parts) }
 {
     if workers == 1 {
+        let bytes = memory.into_text(alloc);
         return make_report_in_place(alloc, day, bytes);
     }
-    drop(bytes);
+    let spare = memory.into_pieces(alloc);
     log_is_made_again();
     let DayParts {
         rules,
@@ -128,16 +130,17 @@ pub(crate) fn make_report<T: Threads + Sync>(
         batch,
     } = day;
     let closed = close_by_workers(rt, alloc, parts, &rules, &batch, workers)?;
-    let used = spell(rt, alloc, closed, &batch, threads_for(workers))?;
+    let used = spell(rt, alloc, closed, &batch, spare, threads_for(workers))?;
     Ok(used)
 }
 
-// The report of a closed day, spelled by so many threads.
+// The report of a closed day, spelled by so many threads in the place of texts that are no longer needed.
 fn spell<T: Threads + Sync>(
     rt: &T,
     alloc: Global,
     closed: ClosedParts,
     batch: &Batch,
+    spare: Vec<Vec<u8>>,
     threads: usize,
 ) -> Result<Used, NoMemory>
     requires { 1 ≤ threads }
@@ -145,7 +148,7 @@ fn spell<T: Threads + Sync>(
         ≡ text_of (report_rows closed.parts (rows_replied batch.now closed.replies.items))) }
 {
     let replies = closed.replies.as_slice();
-    let pieces = write_report_pieces(rt, alloc, &closed.parts, batch, replies, threads)?;
+    let pieces = write_report_pieces(rt, alloc, &closed.parts, batch, replies, spare, threads)?;
     Ok(Used {
         pieces,
         text: Vec::new(alloc),
