@@ -8,7 +8,6 @@ from dataclasses import dataclass
 
 from registry_tools import tables
 from registry_tools.errors import FileFault, shown
-from registry_tools.office import handed
 from registry_tools.office.handed import CHANGES, DO, WORK, begins_item
 from registry_tools.office.sources import MAPPING, TABLE, Original
 from registry_tools.second import faults
@@ -16,7 +15,7 @@ from registry_tools.sheets import columns, importing, sheets
 from registry_tools.sheets.mapping import Mapping
 from registry_tools.sheets.table import OTHER_HEADINGS
 from registry_tools.texts.day_text import read_blocks, read_rows_of
-from registry_tools.texts.rows import Rows, bytes_of, packed_bytes_of, rows_of, rows_of_text
+from registry_tools.texts.rows import Rows, bytes_of, packed_bytes_of, rows_of, rows_of_text, text_of_rows
 
 UTF_16 = (b"\xff\xfe", b"\xfe\xff")
 TAGS = ("do", "work", "account")
@@ -113,7 +112,7 @@ def read_table(path: str, content: bytes, forms: Forms) -> Incoming:
         own = forms.mapping.path
         originals.append(Original(MAPPING, ".ini", packed_bytes_of(own), os.path.basename(own)))
     checked_count(Rows(path, [*rows.rows], rows.lines), kind)
-    return Incoming(path, kind, rows, len(made.made), handed.text_of_rows(made.rows), originals)
+    return Incoming(path, kind, rows, len(made.made), text_of_rows(made.rows), originals)
 
 
 def is_table(content: bytes) -> bool:

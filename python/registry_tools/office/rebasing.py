@@ -3,10 +3,11 @@ is laid over the account as it stands now. So it has what it holds by then, and 
 """
 from pathlib import Path
 
-from registry_tools.office import handed, handed_files
+from registry_tools.office import handed_files
 from registry_tools.office.changes.edits import place_of_row
 from registry_tools.office.handed import CHANGES
 from registry_tools.texts.report import Report
+from registry_tools.texts.rows import text_of_rows
 
 
 def rebased(content: bytes, old: Report, new: Report) -> tuple[bytes, list[int]]:
@@ -22,7 +23,7 @@ def rebased(content: bytes, old: Report, new: Report) -> tuple[bytes, list[int]]
         if now != block:
             changed.append(number)
         rows += now
-    return handed.text_of_rows(rows) if changed else content, changed
+    return text_of_rows(rows) if changed else content, changed
 
 
 def laid_over(block: list[str], old: list[str], new: list[str]) -> list[str]:

@@ -144,7 +144,7 @@ def mark_and_keep(path: Path, looked: list[Looked]) -> None:
 
 def run(said: argparse.Namespace) -> int:
     """Runs the command, and answers the exit status."""
-    office = folder.opened(said.office, folder.to_errors)
+    office = folder.opened(said.office)
     handed_in = office.handed_in()
     date = composing.settlement_date(said.date, office, handed_in)
     with composing.telling_the_way_out():

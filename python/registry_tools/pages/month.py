@@ -240,7 +240,7 @@ def parts_of(said: argparse.Namespace, most: int | None = None) -> tuple[str, in
     """What stands on the page: its title, how many days it tells of, and its parts, with at most so many rows in a
     table."""
     days, last = days_of(said, *past.span_of(said))
-    deadline = past.date_or("--deadline", said.deadline, datetime.date.max) if said.deadline is not None else None
+    deadline = past.date_or("--deadline", said.deadline, None)
     due = DueDates() if said.pairs else past.office_of(said).settings.due
     names = naming.known_to(said)
     compliance = compliance_parts(last, said.year, deadline, due, names, most)

@@ -148,7 +148,7 @@ def source_of_folder(said: argparse.Namespace, stack: contextlib.ExitStack) -> S
     """The pair of the last day is read, and of earlier days what the index has of the accounts of a holder."""
     if said.pending:
         raise WordsFault("--pending is for --pairs: a folder knows what waits")
-    office = folder.opened(said.office, folder.to_errors)
+    office = folder.opened(said.office)
     filed = office.journal.filed()
     *days, event = (filed[place] for place in places_between([own.date for own in filed], said.begin, said.day))
     names = labels.of_folder(office.path) if said.labels is None else labels.read(said.labels)
@@ -192,7 +192,8 @@ def run(said: argparse.Namespace) -> int:
     """Runs the command, and answers the exit status."""
     with contextlib.ExitStack() as stack:
         source = source_of(said, stack)
-        who, released = words.one_line("--who", said.who), release_of(said, source)
+        words.one_line("--who", said.who)
+        released = release_of(said, source)
         if source.office and source.event:
             look_at_folder(said, source.office, source.event)
         last = DayTold(source.last)
@@ -207,7 +208,7 @@ def run(said: argparse.Namespace) -> int:
                     made.write(f"{holder}-{number}.csv", statement_from(days[place:], number))
             if released:
                 # (all letters are there, and get their names behind it: no day is taken back behind its letters)
-                release.release(said, released, who, f"letters in {said.folder}")
+                release.release(said, released, f"letters in {said.folder}")
     print(f"{said.folder}: packages {len(holders)}, accounts {sum(map(len, holders.values()))}")
     return 0
 

@@ -71,7 +71,7 @@ def add_words(parser: argparse.ArgumentParser) -> None:
 
 def run(said: argparse.Namespace) -> int:
     """Runs the command, and answers the exit status."""
-    office = folder.opened(said.office, folder.to_errors)
+    office = folder.opened(said.office)
     last = composing.last_day(office)
     ahead = last.date + datetime.timedelta(office.settings.due.lead)
     until = past.date_or("--until", said.until, ahead)

@@ -111,6 +111,11 @@ def rows_of(path: str | Path) -> Rows:
     return rows_of_text(path, bytes_of(path).decode("utf-8-sig", "surrogateescape"))
 
 
+def text_of_rows(rows: Sequence[str]) -> bytes:
+    """Rows as the content of a file; nothing, if there are none."""
+    return "\n".join([*rows, ""]).encode("utf-8", "surrogateescape")
+
+
 def rows_of_text(path: str | Path, text: str) -> Rows:
     """The rows of a text, each with its line."""
     if '"' in text:
