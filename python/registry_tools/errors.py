@@ -59,7 +59,9 @@ def raise_first(faults: Iterable[FileFault | None]) -> None:
         raise fault
 
 
-def must_be_known(path: Path, field: str, words: Iterable[str], known: Collection[str], expected: str = "") -> None:
+def must_be_known(
+    path: str | Path, field: str, words: Iterable[str], known: Collection[str], expected: str = ""
+) -> None:
     """Ends the command at the first of these words of a file that is none of the known ones."""
     for word in words:
         if word not in known:

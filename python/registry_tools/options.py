@@ -97,6 +97,11 @@ def add_to(parser: argparse.ArgumentParser) -> None:
     parser.add_argument("--to", metavar="FILE", help=whole)
 
 
+def add_engine(parser: argparse.ArgumentParser, option: str, what: str) -> None:
+    """The option by which a day is settled once more: by a program, or else by the library."""
+    parser.add_argument(option, metavar="PROGRAM", nargs="?", const=True, help=what)
+
+
 def look_at_files(words: argparse.Namespace) -> None:
     """Ends the command if standard input is named more than once, or if its answer would be written over one of its
     inputs, or may not be written. This is looked at before any work is done."""

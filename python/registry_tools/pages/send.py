@@ -45,9 +45,8 @@ EXAMPLE = "./day send out/sent --day 2025-09-24 --holder 5502 --office out/offic
 def add_words(parser: argparse.ArgumentParser) -> None:
     """Tells a parser the words of the command."""
     parser.add_argument("folder", metavar="FOLDER", help="the folder that is made")
-    parser.add_argument(
-        "--day", metavar="DATE", help="the last day of the statements; without it, the last settled one"
-    )
+    last = "the last day of the statements; without it, the last settled one"
+    parser.add_argument("--day", metavar="DATE", help=last)
     parser.add_argument("--from", dest="begin", metavar="DATE", help="the first day; without it, the last one alone")
     parser.add_argument("--holder", type=int, nargs="+", metavar="H", help="only these holders")
     labels.add_words(parser)

@@ -29,31 +29,23 @@ ELSEWHERE = "What waits since earlier days stands in the pending file of ./day n
 
 def lead(settled: Settled) -> Markup:
     """The first sentences of the page."""
-    log = settled.log
+    log, next_one = settled.log, f"The next record number is {settled.report.next_record}."
     if not log:
-        return paragraph(
-            f"The day has no instruction. The next record number is {settled.report.next_record}.", class_="lead"
-        )
+        return paragraph(f"The day has no instruction. {next_one}", class_="lead")
     done = sum(logged.is_done for logged in log)
-    numbers = (
-        f"record number {log[0].record}" if len(log) == 1 else f"record numbers {log[0].record} to {log[-1].record}"
-    )
-    return paragraph(
-        f"{count_of(len(log), 'instruction', 'instructions')} got the {numbers}: {grouped(done)} done, "
-        f"{grouped(len(log) - done)} refused. The next record number is {settled.report.next_record}.",
-        class_="lead",
-    )
+    numbers = f"numbers {log[0].record} to {log[-1].record}" if len(log) > 1 else f"number {log[0].record}"
+    outcome = f"{grouped(done)} done, {grouped(len(log) - done)} refused"
+    got = f"{count_of(len(log), 'instruction', 'instructions')} got the record {numbers}"
+    return paragraph(f"{got}: {outcome}. {next_one}", class_="lead")
 
 
 def acts_table(settled: Settled) -> Markup:
     """How many instructions of each act were done and refused."""
-    done = Counter(logged.instruction.act for logged in settled.log if logged.is_done)
-    refused = Counter(logged.instruction.act for logged in settled.log if not logged.is_done)
-    rows = [
-        (settled.rulebook.act_link(act), grouped(done[act]), grouped(refused[act]), grouped(done[act] + refused[act]))
-        for act in ACTS
-        if done[act] + refused[act]
-    ]
+    done, refused = Counter[str](), Counter[str]()
+    for logged in settled.log:
+        (done if logged.is_done else refused)[logged.instruction.act] += 1
+    both, link_to = done + refused, settled.rulebook.act_link
+    rows = [(link_to(act), *map(grouped, (done[act], refused[act], both[act]))) for act in ACTS if both[act]]
     foot = ("all acts", grouped(done.total()), grouped(refused.total()), grouped(len(settled.log)))
     columns = ["Act", "Done", "Refused", "All"]
     return table("Instructions by act", columns, rows, right=columns[1:], foot=[foot], is_short=True)
@@ -94,13 +86,10 @@ def equation(kind: str, before: int, moved: Movements, after: int) -> Markup:
     """The equation of conservation in a line, and whether it holds."""
     created, deleted, undeleted = moved.created[kind], moved.deleted[kind], moved.undeleted[kind]
     expected = before + created - deleted + undeleted
-    sum_in_words = (
-        f"{grouped(before)} + {grouped(created)} - {grouped(deleted)} + {grouped(undeleted)} = {grouped(expected)}"
-    )
+    added = f"{grouped(before)} + {grouped(created)} - {grouped(deleted)} + {grouped(undeleted)} = {grouped(expected)}"
     verdict = "It adds up." if expected == after else f"It does not add up: the report has {grouped(after)}."
-    return paragraph(
-        f"{kind.capitalize()}: {sum_in_words}. ", tag("strong", verdict, class_=None if expected == after else "alert")
-    )
+    told = tag("strong", verdict, class_=None if expected == after else "alert")
+    return paragraph(f"{kind.capitalize()}: {added}. ", told)
 
 
 def log_cells(settled: Settled, logged: LogRow) -> Cells:
@@ -146,18 +135,10 @@ def refusals_of(settled: Settled, code: int, own: list[LogRow]) -> Iterator[Mark
     """A check with its meaning, its remedy and the instructions that it refused."""
     rulebook, check = settled.rulebook, settled.rulebook.checks[code]
     rows = [log_cells(settled, logged) for logged in own[:MOST_REFUSED]]
-    caption = (
-        f"Refused as {check.name}"
-        if len(rows) == len(own)
-        else f"Refused as {check.name}: the first {len(rows)} of {grouped(len(own))}"
-    )
-    yield tag(
-        "h3",
-        f"{code} ",
-        rulebook.check_link(code),
-        f": {count_of(len(own), 'instruction', 'instructions')}",
-        id=f"refused-{code}",
-    )
+    caption, count = f"Refused as {check.name}", count_of(len(own), "instruction", "instructions")
+    if len(rows) < len(own):
+        caption += f": the first {len(rows)} of {grouped(len(own))}"
+    yield tag("h3", f"{code} ", rulebook.check_link(code), f": {count}", id=f"refused-{code}")
     yield from meaning(settled, check)
     yield table(caption, LOG_COLUMNS, rows)
     if len(rows) < len(own):
@@ -175,10 +156,8 @@ def refusals_parts(settled: Settled) -> list[Markup]:
     refused = settled.refused()
     if not refused:
         return [paragraph("No instruction was refused.")]
-    rows = (
-        (link(f"#refused-{code}", f"{code} {settled.rulebook.checks[code].name}"), grouped(len(own)))
-        for code, own in refused.items()
-    )
+    names = {code: settled.rulebook.checks[code].name for code in refused}
+    rows = ((link(f"#refused-{code}", f"{code} {names[code]}"), grouped(len(own))) for code, own in refused.items())
     return [
         table("Refusals by check", ["Check", "Refused"], rows, right=("Refused",), is_short=True),
         *(part for code, own in refused.items() for part in refusals_of(settled, code, own)),
@@ -202,11 +181,8 @@ def waiting_instructions(settled: Settled) -> list[Markup]:
     """The instructions that wait for their due day; of many, the first ones."""
     rows = waiting_rows(settled)
     if not rows:
-        return [
-            paragraph(
-                "No instruction waits." if settled.has_pending else f"No instruction of this day waits. {ELSEWHERE}"
-            )
-        ]
+        none = "No instruction waits." if settled.has_pending else f"No instruction of this day waits. {ELSEWHERE}"
+        return [paragraph(none)]
     note = paragraph(waiting_note(settled))
     if len(rows) <= MOST_REFUSED:
         return [note, table(WAITING_CAPTION, WAITING_COLUMNS, rows)]
@@ -221,9 +197,8 @@ def waiting_pages(settled: Settled, files: dict[str, str], note: str) -> Iterato
     if len(rows) > MOST_REFUSED:
         first = [paragraph(link(files["day"], WAY_BACK)), paragraph(waiting_note(settled))]
         title = f"Waiting after {settled.head.date}"
-        yield from LongTable(WAITING, title, Table(WAITING_COLUMNS), WAITING_CAPTION, rows, first).pages(
-            settled.frame, note=note
-        )
+        own = LongTable(WAITING, title, Table(WAITING_COLUMNS), WAITING_CAPTION, rows, first)
+        yield from own.pages(settled.frame, note=note)
 
 
 def refused_pages(settled: Settled, files: dict[str, str], note: str) -> Iterator[tuple[str, str]]:
@@ -233,10 +208,9 @@ def refused_pages(settled: Settled, files: dict[str, str], note: str) -> Iterato
             check = settled.rulebook.checks[code]
             rows = [log_cells(settled, logged) for logged in own]
             first = [paragraph(link(f"{files['day']}#refused-{code}", WAY_BACK)), *meaning(settled, check)]
-            title = f"Refused as {check.name} on {settled.head.date}"
-            own_table = LongTable(
-                refused_page(code), title, Table(LOG_COLUMNS), f"Refused as {check.name}", rows, first
-            )
+            caption = f"Refused as {check.name}"
+            title = f"{caption} on {settled.head.date}"
+            own_table = LongTable(refused_page(code), title, Table(LOG_COLUMNS), caption, rows, first)
             yield from own_table.pages(settled.frame, note=note)
 
 

@@ -78,16 +78,12 @@ def act_columns(i: rules.Instruction) -> list[ActColumns]:
         return [ActColumns("", i.first, rules.known(i.kind), i.amounts[0])]
     if i.shares:
         return [ActColumns(i.first, to, rules.known(i.kind), amount) for to, amount in i.shares]
+    kind_and_amount: dict[str, Any] = {"kind": i.kind, "amount": sum(i.amounts)}
     more: dict[str, dict[str, Any]] = {
-        "surrender": {"kind": i.kind, "amount": sum(i.amounts)},
-        "delete": {"kind": i.kind, "amount": sum(i.amounts)},
-        "reverse": {"record_named": i.number},
-        "trust": {"to": i.other},
-        "untrust": {"to": i.other},
-        "status": {"status": i.status},
-        "emissions": {"amount": i.tonnes, "year": i.year},
-        "assess": {"year": i.year},
-    }
+        "surrender": kind_and_amount, "delete": kind_and_amount, "reverse": {"record_named": i.number},
+        "trust": {"to": i.other}, "untrust": {"to": i.other}, "status": {"status": i.status},
+        "emissions": {"amount": i.tonnes, "year": i.year}, "assess": {"year": i.year},
+    }  # fmt: skip
     return [ActColumns(i.first, **more[i.act])]
 
 
@@ -125,9 +121,8 @@ def due_days_of(report: Report, days: list[DayText]) -> dict[int, datetime.date 
     log = progress.over(rules.settle(day.day()), "working out due days", len(day.instructions))
     due = {record: logged.due for record, logged in enumerate(log, day.head.next_record)}
     head = head_after(day, report)
-    return due | {
-        logged.record: due_day_after(head, logged.instruction) for logged in report.log if logged.name == NOT_DUE
-    }
+    waiting = (logged for logged in report.log if logged.name == NOT_DUE)
+    return due | {logged.record: due_day_after(head, logged.instruction) for logged in waiting}
 
 
 def report_date(report: Report) -> datetime.date | None:
@@ -138,19 +133,15 @@ def report_date(report: Report) -> datetime.date | None:
 def is_wanted(row: LogCells, words: argparse.Namespace) -> bool:
     """Whether a row is one that the words ask for."""
     of = dict(zip(COLUMNS.names, row))
-    return (not words.refused or of["outcome"] == "refused") and (
-        words.account is None or words.account in (of["from"], of["to"])
-    )
+    is_of_account = words.account is None or words.account in (of["from"], of["to"])
+    return is_of_account and (not words.refused or of["outcome"] == "refused")
 
 
 def look_for_account(reports: list[Report], number: int | None) -> None:
     """Ends the command if there is no such account, and no instruction names it: an empty table would say that nothing
     happened."""
-    is_named = (
-        number in (*rules.named(logged.instruction), logged.instruction.other)
-        for report in reports
-        for logged in report.log
-    )
+    instructions = (logged.instruction for report in reports for logged in report.log)
+    is_named = (number in (*rules.named(i), i.other) for i in instructions)
     if number is not None and not any(number in report.book for report in reports) and not any(is_named):
         raise WordsFault(f"--account {number}: no report has such an account, and no instruction names it")
 
@@ -159,10 +150,8 @@ def look_at_order(reports: list[Report]) -> None:
     """Ends the command if a report is named twice, or stands before an earlier one."""
     for place, (report, later) in enumerate(zip(reports, reports[1:])):
         # (two days without instructions may have the same report)
-        again = next(
-            (earlier for earlier in reports[: place + 1] if later.log and earlier.source.rows == later.source.rows),
-            None,
-        )
+        same = (own for own in reports[: place + 1] if later.log and own.source.rows == later.source.rows)
+        again = next(same, None)
         if again:
             raise WordsFault(f"{later.path} is {again.path} again: its rows would stand twice")
         first = later.next_record - len(later.log)

@@ -76,9 +76,8 @@ def words_of(act: str, fields: Sequence[str], account: Callable[[str], str] = st
         parts = [f"{grouped(amount)} to {account(number)}" for number, amount in zip(shares[::2], shares[1::2])]
         return f"distribution of {kind} from {account(giver)}: {', '.join(parts)}"
     said = zip(ACTS[act].fields.split(), fields, strict=True)
-    return ACTS[act].sentence.format(
-        *(grouped(word) if name in AMOUNTS else account(word) if name in OF_ACCOUNTS else word for name, word in said)
-    )
+    words = (grouped(own) if name in AMOUNTS else account(own) if name in OF_ACCOUNTS else own for name, own in said)
+    return ACTS[act].sentence.format(*words)
 
 
 def instruction_in_words(i: rules.Instruction, account: Callable[[str], str] = str) -> str:
@@ -112,9 +111,8 @@ def table_lines(head: Sequence[str], rows: Sequence[Sequence[str]], right: Colle
     widths = [max(len(row[place]) for row in [head, *rows]) for place in range(len(head))]
 
     def line(row: Sequence[str]) -> str:
-        cells = [
-            cell.rjust(width) if name in right else cell.ljust(width) for name, cell, width in zip(head, row, widths)
-        ]
+        pairs = zip(head, row, widths)
+        cells = (cell.rjust(width) if name in right else cell.ljust(width) for name, cell, width in pairs)
         return "  ".join(cells).rstrip()
 
     return [line(head), *map(line, rows)]
