@@ -48,7 +48,7 @@ from registry_tools.texts.books import Sums, sums_of, sums_told
 from registry_tools.texts.checks import checks
 from registry_tools.texts.day_text import DayText
 from registry_tools.texts.in_words import grouped
-from registry_tools.texts.pairs import must_follow
+from registry_tools.texts.follows import must_follow
 from registry_tools.texts.report import Report, report_of
 from registry_tools.texts.rows import rows_of_text
 

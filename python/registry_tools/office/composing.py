@@ -173,7 +173,7 @@ def later_day(office: Office, handed_in: HandedIn, date: datetime.date) -> NextD
         except EditFault as fault:
             place = next((item.place for item in handed_in.items(EDITS) if item.rows[0] == fault.edit.row()), None)
             raise EditFault(fault.edit, fault.why, place) from None
-        composed.notes = [*map(merged.with_origins, composed.notes)]
+        composed.notes = [merged.path.sub(merged.named, note) for note in composed.notes]
     return replace(composed, new=[*handed_in.items(DO)], contents=contents, before=(day, report))
 
 
@@ -221,8 +221,3 @@ def head_of(heading: list[str]) -> rules.Day:
     for place in range(len(heading)):
         reader.add(place)
     return rules.day_of_fields(row.split(",") for row in heading)
-
-
-def asked_rules(day: DayText) -> list[rules.Logged]:
-    """What comes of each instruction of a day, by the second answer. Only the accounts that it asks for are read."""
-    return [*rules.settle(day.day())]

@@ -84,7 +84,8 @@ def run(said: argparse.Namespace) -> int:
             if not said.yes:
                 print(f"{date} would be corrected so; nothing is, without --yes")
                 return FOUND
-            approved = approvals.let_through(office, "correct", date, asked_words(said), result_of(settled))
+            result = files.sum_of(b"".join(own.composed.text + own.report_text for own in settled))
+            approved = approvals.let_through(office, "correct", date, asked_words(said), result)
             if approved is None:
                 return FOUND
             if approved:
@@ -121,11 +122,6 @@ def asked_words(said: argparse.Namespace) -> str:
     for path in said.files:
         parts.append(f"--with {os.path.basename(path)} ({'; '.join(incoming.read(path).rows.rows)})")
     return " ".join([*parts, *(["--second"] if said.second else []), f"--why {said.why}"])
-
-
-def result_of(settled: list[Settled]) -> str:
-    """The sum of all that comes of it."""
-    return files.sum_of(b"".join(own.composed.text + own.report_text for own in settled))
 
 
 # Days that stay.

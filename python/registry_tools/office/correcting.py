@@ -12,8 +12,9 @@ from typing import Iterator
 from registry_tools.calendars.due_days import NOT_DUE
 from registry_tools.errors import FileFault, WordsFault, raise_first
 from registry_tools.office import (
-    close, composing, files, folder, hand_in, handed_files, incoming, past, prepared, rebasing, undo, whole_change,
+    close, composing, files, folder, hand_in, handed_files, incoming, past, prepared, undo, whole_change,
 )  # fmt: skip
+from registry_tools.office.changes.edits import place_of_row
 from registry_tools.office.close import Settled
 from registry_tools.office.folder import Office
 from registry_tools.office.handed import CHANGES, DO, FIRST, Approved, HandedIn, Taken
@@ -21,6 +22,7 @@ from registry_tools.office.journal import FILES, UNDONE, Event, Journal, now
 from registry_tools.office.waits import waits_of, write_waits
 from registry_tools.progress import progress
 from registry_tools.texts.report import LogRow, Report
+from registry_tools.texts.rows import text_of_rows
 
 REVERSE = "reverse"
 # Of the day before, the report as it was and as it becomes.
@@ -137,7 +139,7 @@ class Correction:
         for record in sorted((own for own in self.without if event.first <= own < event.next), reverse=True):
             self.leave_out(record, record - begin, filed, contents)
         if reports:
-            contents[CHANGES], changed = rebasing.rebased(contents[CHANGES], *reports)
+            contents[CHANGES], changed = rebased(contents[CHANGES], *reports)
             whole = "was handed in as a whole, and comes with what it holds by then"
             self.notes += [f"{event.date}: account {number} {whole}" for number in changed]
         own = handed_files.again(place, office.journal.last_line, filed, contents, event.date)
@@ -207,3 +209,34 @@ def keep(correction: Correction, change: whole_change.Change, events: list[Event
     write_waits(there.folder, settled.day, settled.report, str(waiting))
     there.keep()
     change.keep(*events)
+
+
+# Accounts that were handed in as a whole: what a hand changed is laid over the account as it stands now. So it has what
+# it holds by then, and the record numbers of then.
+
+
+def rebased(content: bytes, old: Report, new: Report) -> tuple[bytes, list[int]]:
+    """Blocks that were made of the accounts of one report, as they are made of those of another one, and the accounts
+    whose blocks are other ones now."""
+    rows: list[str] = []
+    changed = []
+    for block in handed_files.items_of_text(Path("changes.csv"), CHANGES, content):
+        number = int(block[0].split(",")[1])
+        now = block
+        if number in old.book and number in new.book:
+            now = laid_over(block, old.book[number].rows, new.book[number].rows)
+        if now != block:
+            changed.append(number)
+        rows += now
+    return text_of_rows(rows) if changed else content, changed
+
+
+def laid_over(block: list[str], old: list[str], new: list[str]) -> list[str]:
+    """The rows of an account with what a hand changed: what differs between `old` and the block."""
+    fields = [
+        given if given != before else now
+        for given, before, now in zip(block[0].split(","), old[0].split(","), new[0].split(","))
+    ]
+    gone, come = {*old[1:]} - {*block[1:]}, [row for row in block[1:] if row not in old[1:]]
+    left = [row for row in new[1:] if row not in gone and row not in come]
+    return [",".join(fields), *sorted([*left, *come], key=place_of_row)]

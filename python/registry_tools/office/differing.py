@@ -30,6 +30,7 @@ def all_differences(before: PastDay, after: Settled) -> list[str]:
     )  # fmt: skip
     return [line for part in parts for line in first_of([*part], MOST_SHOWN)]
 
+
 # Instructions.
 
 

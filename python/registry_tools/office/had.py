@@ -22,11 +22,6 @@ class Had:
     # The name of the check that refused it; nothing, if it is done.
     refused: str
 
-    @property
-    def may_come_again(self) -> bool:
-        """Whether the instruction was refused for good, so that it may come again."""
-        return self.refused not in ("", NOT_DUE)
-
     def __str__(self) -> str:
         how = f"refused as record {self.record}, {self.refused}" if self.refused else f"done as record {self.record}"
         return f"{self.date} has {how}"

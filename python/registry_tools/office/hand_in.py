@@ -17,6 +17,7 @@ from dataclasses import dataclass, field
 from pathlib import Path
 from typing import NamedTuple, Sequence
 
+from registry_tools.calendars.due_days import NOT_DUE
 from registry_tools.errors import FileFault, WordsFault
 from registry_tools.office import (
     approvals, awaited, composing, files, folder, had, handed, handed_files, incoming, labels, people, trial, words,
@@ -185,8 +186,9 @@ def refuse_instructions(office: Office, here: Here, own: Incoming) -> None:
     """Ends the command at an instruction that is there already, or is done."""
     source = own.rows
     rows = {row for row in source.rows if row != "end"}
+    # (what was refused for good may come again)
     there = {
-        row: Before(f"one that {earlier}: {row}", None, earlier.may_come_again)
+        row: Before(f"one that {earlier}: {row}", None, earlier.refused not in ("", NOT_DUE))
         for row, earlier in had.instructions_had(office, rows).items()
     }
     for row in rows & {waits.instruction.row for waits in waits_of(office)}:

@@ -27,17 +27,13 @@ def read(folder: Path) -> HandedIn:
         if there != part.sum:
             expected = f"{part.sum}: somebody changed it after it was handed in"
             raise FileFault(folder / part.file, 0, "SHA-256", there, expected)
-        count = count_in(folder / part.file, part.kind)
+        kind = DO if part.kind == FIRST else part.kind
+        count = sum(begins_item(kind, row) for row in rows_of(folder / part.file).rows)
         if count != part.count:
             raise FileFault(path, 0, "COUNT", f"{part.count} for {part.file}", f"{count}: so many stand in it")
     raise_first(sources.changed(folder / own.file, own) for own in handed.sources())
     handed.must_be_of_commands()
     return handed
-
-
-def count_in(path: Path, kind: str) -> int:
-    """How many items a file has."""
-    return sum(begins_item(DO if kind == FIRST else kind, row) for row in rows_of(path).rows)
 
 
 def read_journal(path: Path) -> HandedIn:

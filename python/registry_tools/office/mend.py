@@ -32,7 +32,7 @@ from registry_tools.office.merged import MERGED, written
 from registry_tools.office.waits import waits_text
 from registry_tools.texts.changes import is_same
 from registry_tools.texts.day_text import DayText, day_of
-from registry_tools.texts.pairs import read_pair
+from registry_tools.texts.follows import read_pair
 from registry_tools.texts.report import Report
 from registry_tools.texts.rows import bytes_of, rows_of_text, text_of_rows
 

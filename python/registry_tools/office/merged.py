@@ -46,10 +46,6 @@ class Merged:
         rows = self.rows.get(path, [])
         return rows[line - 1] if 0 < line <= len(rows) else (None, 0)
 
-    def with_origins(self, note: str) -> str:
-        """A line in which each place of the merged file is that of the file that it came from."""
-        return self.path.sub(self.named, note)
-
     def named(self, found: re.Match[str]) -> str:
         """The file and the line from which a place of the merged file came."""
         name, line = self.origin(found[1], int(found[2] or 0))

@@ -69,11 +69,8 @@ def is_named(name: str, arguments: list[str]) -> bool:
     if TAKES[name] != REPORTS or has_office:
         return True
     _, has_value, value = given[place].partition("=")
-    return is_meant_as_date(value if has_value else "".join(given[place + 1 : place + 2]))
-
-
-def is_meant_as_date(word: str) -> bool:
-    """Whether a word is a date, or a slip in one, and no path."""
+    word = value if has_value else "".join(given[place + 1 : place + 2])
+    # (a date, or a slip in one, and no path)
     return is_date(word) or bool(LIKE_A_DATE.fullmatch(word) and not os.path.exists(word))
 
 

@@ -33,7 +33,7 @@ from registry_tools.texts import changes as made, pending
 from registry_tools.texts.accounts import Accounts, Block
 from registry_tools.texts.changes import refusals
 from registry_tools.texts.day_text import DayText, read_blocks, read_rows_of
-from registry_tools.texts.pairs import read_pair
+from registry_tools.texts.follows import read_pair
 from registry_tools.texts.repeated import Handed, tell_dates, tell_repeated
 from registry_tools.texts.report import Report
 from registry_tools.texts.rows import Rows, begins_with

@@ -18,7 +18,7 @@ from registry_tools.texts import changes
 from registry_tools.texts.changes import HandChange
 from registry_tools.texts.day_text import DayText, read_day
 from registry_tools.texts.filed import filed_day, filed_report
-from registry_tools.texts.pairs import must_follow
+from registry_tools.texts.follows import must_follow
 from registry_tools.texts.report import Report, read_report
 from registry_tools.texts.rows import rows_of
 

@@ -19,7 +19,7 @@ from registry_tools.office.journal import UNDONE, Event
 from registry_tools.office.waits import write_waits
 from registry_tools.office.whole_change import Change
 from registry_tools.texts.day_text import day_of
-from registry_tools.texts.pairs import read_pair
+from registry_tools.texts.follows import read_pair
 from registry_tools.texts.rows import rows_of, text_of_rows
 
 EXAMPLE = './day undo 2025-09-24 --why "a surrender was entered for the wrong account" --office out/office'

@@ -7,7 +7,7 @@ from registry_tools.office.labels import ACCOUNT
 from registry_tools.pages import index
 from registry_tools.pages.html import Cells, Markup, Table, link, paragraph, table, tag, words_in_cell
 from registry_tools.pages.rulebook import RULES
-from registry_tools.pages.settled import LongTable, Settled, count_of
+from registry_tools.pages.settled import LongTable, Settled, count_of, rows_of_parts
 from registry_tools.questions import compliance
 from registry_tools.questions.compliance import Standing
 from registry_tools.texts.in_words import grouped
@@ -130,7 +130,8 @@ def account_rows(settled: Settled) -> Iterator[Cells]:
     done, refused = Counter[int](), Counter[int]()
     for logged in settled.log:
         (done if logged.is_done else refused).update(logged.touched())
-    starts = index.starts_of(settled.report.numbers)
+    parts = rows_of_parts(settled.report.numbers)
+    starts = {first for part in parts for first, _ in index.ranges(part, index.RANGE)}
     for number, block in settled.report.book.items():
         _, _, kind, holder, status, _, _, _, general, aviation = block.rows[0].split(",")
         touched = grouped(done[number]), grouped(refused[number])

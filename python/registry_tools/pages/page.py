@@ -35,16 +35,16 @@ from registry_tools.pages.html import Frame
 from registry_tools.pages.rulebook import FORMATS, RULES, Rulebook, document_page
 from registry_tools.pages.settled import ByHand, Settled, by_hand_before, count_of
 from registry_tools.pages.statement import DayOfAccounts
-from registry_tools.pages.summary import summary_pages
+from registry_tools.pages.summary import DAY, summary_pages
 from registry_tools.pages.workers import workers_page
 from registry_tools.progress import progress
 from registry_tools.texts.day_text import DayText
-from registry_tools.texts.pairs import read_pair
+from registry_tools.texts.follows import read_pair
 from registry_tools.texts.pending import read_pending, waiting_before
 from registry_tools.texts.report import Report
 
 EXAMPLE = "./day page examples/week/monday.csv examples/week/monday-report.csv out/pages --only 100210 100377"
-FILES = {"day": "index.html", "compliance": "compliance.html", "accounts": "accounts.html", "workers": "workers.html"}
+FILES = {"day": DAY, "compliance": "compliance.html", "accounts": "accounts.html", "workers": "workers.html"}
 NAMES = {"day": "The day", "compliance": "Compliance", "accounts": "Accounts", "workers": "Workers"}
 MOST_PROCESSES, SHARE = 4, 500
 # What ends the command.

@@ -41,7 +41,7 @@ from registry_tools.showing import Cell
 from registry_tools.texts.day_text import DayText
 from registry_tools.texts.in_words import grouped, table_lines
 from registry_tools.texts.outdated import Entries, was_once_right
-from registry_tools.texts.pairs import read_pair
+from registry_tools.texts.follows import read_pair
 from registry_tools.texts.report import Report
 
 EXAMPLE = "./day compliance examples/week/monday.csv examples/week/monday-report.csv --year 2024"

@@ -23,7 +23,7 @@ each once.
 """
 import argparse
 import datetime
-from typing import Any, Iterator, NamedTuple
+from typing import Any, Iterator
 
 from registry_tools import showing, tables
 from registry_tools.calendars.due_days import NOT_DUE, due_day_after, head_after
@@ -36,7 +36,8 @@ from registry_tools.showing import Cell
 from registry_tools.texts.accounts import Accounts
 from registry_tools.texts.checks import advice_for
 from registry_tools.texts.day_text import DayText, read_day
-from registry_tools.texts.pairs import must_follow
+from registry_tools.texts.in_words import act_columns
+from registry_tools.texts.follows import must_follow
 from registry_tools.texts.report import Report, read_report
 
 EXAMPLE = "./day log examples/week/monday-report.csv examples/week/tuesday-report.csv --refused > out/refused.csv"
@@ -58,33 +59,6 @@ def add_words(parser: argparse.ArgumentParser) -> None:
 
 # The cells of a row, in the order of the columns.
 LogCells = tuple[Any, ...]
-
-
-class ActColumns(NamedTuple):
-    """What the columns of an act say."""
-
-    first: int | str = ""
-    to: int | str = ""
-    kind: str = ""
-    amount: int | str = ""
-    year: int | str = ""
-    status: str = ""
-    record_named: int | str = ""
-
-
-def act_columns(i: rules.Instruction) -> list[ActColumns]:
-    """The columns of an instruction: once, or for each account that receives."""
-    if i.act == "create":
-        return [ActColumns("", i.first, rules.known(i.kind), i.amounts[0])]
-    if i.shares:
-        return [ActColumns(i.first, to, rules.known(i.kind), amount) for to, amount in i.shares]
-    kind_and_amount: dict[str, Any] = {"kind": i.kind, "amount": sum(i.amounts)}
-    more: dict[str, dict[str, Any]] = {
-        "surrender": kind_and_amount, "delete": kind_and_amount, "reverse": {"record_named": i.number},
-        "trust": {"to": i.other}, "untrust": {"to": i.other}, "status": {"status": i.status},
-        "emissions": {"amount": i.tonnes, "year": i.year}, "assess": {"year": i.year},
-    }  # fmt: skip
-    return [ActColumns(i.first, **more[i.act])]
 
 
 def entry_in_effect(accounts: Accounts, i: rules.Instruction) -> datetime.date | str:

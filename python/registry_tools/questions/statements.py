@@ -24,7 +24,7 @@ from registry_tools.progress import progress
 from registry_tools.texts.accounts import Block
 from registry_tools.texts.day_text import DayText
 from registry_tools.texts.own import own_log, own_row, users_of
-from registry_tools.texts.pairs import read_pair
+from registry_tools.texts.follows import read_pair
 from registry_tools.texts.report import LogRow, Report
 
 EXAMPLE = (

@@ -45,9 +45,7 @@ def expected_rows(day: DayText) -> Iterator[str]:
 def settled_again(day: DayText) -> tuple[rules.Day, list[rules.Logged]]:
     """A day as the rules leave it, and its log."""
     settled = day.day()
-    return settled, [
-        *progress.over(rules.settle(settled), f"settling {day.path}", len(day.instructions), step=100)
-    ]
+    return settled, [*progress.over(rules.settle(settled), f"settling {day.path}", len(day.instructions), step=100)]
 
 
 def first_difference(source: Rows, expected: Iterable[str]) -> FileFault | None:

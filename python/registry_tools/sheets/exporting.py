@@ -20,7 +20,7 @@ from registry_tools.questions import compliance, log
 from registry_tools.sheets import columns, writing
 from registry_tools.sheets.writing import Written
 from registry_tools.texts.day_text import DayText
-from registry_tools.texts.pairs import read_pair
+from registry_tools.texts.follows import read_pair
 from registry_tools.texts.report import Report
 
 EXAMPLE = "./day export examples/week/monday.csv examples/week/monday-report.csv --accounts --xlsx out/accounts.xlsx"

@@ -135,6 +135,7 @@ def between(rules_before: Sequence[str], before: Report, day: DayText) -> Iterat
     for number in unlike(before.book, day.book):
         yield from account_changed(before, day, number)
 
+
 # What of that may be changed by hand. What an act does may not be done by hand.
 
 
@@ -175,14 +176,9 @@ def as_opened(rows: list[str]) -> list[str]:
     return [",".join([*fields[:4], "open", *fields[5:8], "0", "0"])]
 
 
-def differences_by_hand(old: Block | None, new: Block) -> list[Difference]:
-    """In what an account of the next day's text differs from the one before, or from one that is just opened."""
-    return [*differences_of(old.rows if old else as_opened(new.rows), new.rows)]
-
-
 def refusals(old: Block | None, new: Block) -> Iterator[FileFault]:
     """What of an account may not be changed by hand, each as a fault of its text."""
-    for difference in differences_by_hand(old, new):
+    for difference in differences_of(old.rows if old else as_opened(new.rows), new.rows):
         why = why_not(difference)
         if why:
             line, before = new.line_of(difference.place_after or 0), difference.place_before or 0

@@ -1,4 +1,4 @@
-"""Whether a report follows from its day: each command that reads a pair asks here, by `pairs`.
+"""Whether a report follows from its day: each command that reads a pair asks here.
 
   the log        has the instructions one by one, under the record numbers from NEXT on, on the day
   a done row     is one that no check refuses on the accounts as they then are. What it says that they hold behind it,
@@ -16,11 +16,11 @@ from typing import Iterator
 from registry_tools.errors import FileFault, shown
 from registry_tools.progress import progress
 from registry_tools.second import rules
-from registry_tools.texts.accounts import WithBook
+from registry_tools.texts.accounts import Known, WithBook
 from registry_tools.texts.books import Sums, sums_of
 from registry_tools.texts.changes import differences_of
-from registry_tools.texts.day_text import DayText
-from registry_tools.texts.report import LogRow, Report
+from registry_tools.texts.day_text import DayText, read_day
+from registry_tools.texts.report import LogRow, Report, read_report
 from registry_tools.texts.runs import unlike
 
 
@@ -158,3 +158,21 @@ def line_behind(text: WithBook, number: int) -> int:
         return text.book[text.numbers[place]].line
     last = text.book[text.numbers[-1]] if text.numbers else None
     return text.source.line(last.index + last.count if last else text.first_account)
+
+
+# Reading a pair.
+
+
+def read_pair(day_path: str, report_path: str, known: Known | None = None) -> tuple[DayText, Report]:
+    """A day text and its report. Ends the command if the report does not follow from the day. That is quicker with the
+    `known` book of the report before it."""
+    day = read_day(day_path, known)
+    report = read_report(report_path, day)
+    must_follow(day, report)
+    return day, report
+
+
+def must_follow(day: DayText, report: Report) -> None:
+    """Ends the command at the first difference."""
+    for difference in differences(day, report):
+        raise difference

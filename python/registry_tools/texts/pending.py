@@ -183,8 +183,9 @@ def still_waiting(file: PendingFile, day: DayText, report: Report, date: datetim
             continue
         if waits.entered is None or (entered_later if file.made else waits.entered > day.head.date):
             found.waiting.append(Waiting(waits.record, waits.instruction, place=waits.place))
-        elif is_entered_into(file, waits, day) and tuple(waits.instruction.fields) not in there:
-            found.lost.append(waits)
+        elif tuple(waits.instruction.fields) not in there:
+            made = file.made.next_record == day.head.next_record if file.made else waits.entered == day.head.date
+            found.lost += [waits] if made else []
     return found
 
 
@@ -234,11 +235,6 @@ def is_written_behind(
         other = f"with the text of {made.date}, and not with {day.path}"
         found.warnings.append(f"{file.path} was written {other}: {left_out}")
     return False
-
-
-def is_entered_into(file: PendingFile, waits: Waiting, day: DayText) -> bool:
-    """Whether a row says that an instruction was entered into the text of the day."""
-    return file.made.next_record == day.head.next_record if file.made else waits.entered == day.head.date
 
 
 def waiting_before(file: PendingFile, day: DayText, report: Report) -> list[Waiting]:

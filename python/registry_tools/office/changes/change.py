@@ -35,7 +35,7 @@ from registry_tools.options import add_to
 from registry_tools.output import write_answer
 from registry_tools.texts.accounts import Block
 from registry_tools.texts.day_text import DayText
-from registry_tools.texts.pairs import read_pair
+from registry_tools.texts.follows import read_pair
 from registry_tools.texts.rows import text_of_rows
 
 EXAMPLE = './day change 100210 --holder 5503 --why "sold" --office out/office'
