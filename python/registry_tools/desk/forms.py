@@ -8,7 +8,6 @@ from typing import Any, Iterator, Mapping
 
 from registry_tools.desk.reading import Reading
 from registry_tools.errors import WordsFault
-from registry_tools.office.handed import text_of_rows
 from registry_tools.second import faults, rules
 from registry_tools.sheets import columns as sheets
 from registry_tools.sheets import importing
@@ -16,6 +15,7 @@ from registry_tools.sheets.sheets import read_content
 from registry_tools.texts.accounts import Block
 from registry_tools.texts.day_text import DayText
 from registry_tools.texts.in_words import grouped
+from registry_tools.texts.rows import text_of_rows
 
 # What may be chosen for a field of an instruction.
 CHOICES = {"kind": rules.KINDS, "status": faults.STATUSES}

@@ -72,10 +72,8 @@ def compliance_parts(
     lacking = sorted(unsettled, key=lambda row: (-(row.missing or 0), row.account.number))
     if lacking:
         until = until_in_words(last.date, deadline or due.surrender_of(year))
-        own = [
-            (names.account(row.account.number), names.holder(row.account.holder), bar(row), missing_of(row), until)
-            for row in lacking
-        ]
+        whose = ((names.account(row.account.number), names.holder(row.account.holder), row) for row in lacking)
+        own = [(account, holder, bar(row), missing_of(row), until) for account, holder, row in whose]
         yield from first_rows_of(MISSED, f"Who is missing how much for {year}", own, most)
 
 
@@ -131,9 +129,8 @@ def day_of_pair(past_day: PastDay) -> DayOfMonth:
     sums, log = sums_of(past_day.report.book_rows), past_day.report.log
     refused = Counter(logged.name for logged in log if not logged.is_done)
     allowances = {kind: sums[kind].allowances for kind in rules.KINDS}
-    return DayOfMonth(
-        past_day.date, sum(logged.is_done for logged in log), refused, allowances, [*past_day.changes()]
-    )
+    done = sum(logged.is_done for logged in log)
+    return DayOfMonth(past_day.date, done, refused, allowances, [*past_day.changes()])
 
 
 def days_of_folder(office: Office, begin: datetime.date, end: datetime.date) -> list[DayOfMonth]:
@@ -168,11 +165,8 @@ def totals_parts(days: list[DayOfMonth]) -> Iterator[Markup]:
     for kind in rules.KINDS:
         if len(balances) > 1 and any(held[kind] for _, held in balances):
             yield figure(f"{kind.capitalize()} allowances, held and surrendered together", chart(kind, balances))
-    rows = [
-        (day.date, *map(grouped, (day.done, day.refused.total(), *(day.allowances[kind] for kind in rules.KINDS))))
-        for day in days
-    ]
-    yield DAYS.of("Each day, and what there is after it", rows)
+    numbers = ((day, (day.done, day.refused.total(), *(day.allowances[kind] for kind in rules.KINDS))) for day in days)
+    yield DAYS.of("Each day, and what there is after it", [(day.date, *map(grouped, own)) for day, own in numbers])
 
 
 def refusal_parts(days: list[DayOfMonth]) -> Iterator[Markup]:
@@ -182,10 +176,8 @@ def refusal_parts(days: list[DayOfMonth]) -> Iterator[Markup]:
     if not count:
         yield paragraph(NOTHING)
         return
-    yield REFUSALS.of(
-        "By reason",
-        [(name, grouped(often), letter.meaning_of(checks()[name])) for name, often in count.most_common()],
-    )
+    rows = [(name, grouped(often), letter.meaning_of(checks()[name])) for name, often in count.most_common()]
+    yield REFUSALS.of("By reason", rows)
 
 
 def hand_rows(days: list[DayOfMonth], names: Labels) -> Iterator[tuple[datetime.date, str, str]]:
@@ -240,7 +232,7 @@ def parts_of(said: argparse.Namespace, most: int | None = None) -> tuple[str, in
     """What stands on the page: its title, how many days it tells of, and its parts, with at most so many rows in a
     table."""
     days, last = days_of(said, *past.span_of(said))
-    deadline = past.date_or("--deadline", said.deadline, datetime.date.max) if said.deadline is not None else None
+    deadline = past.date_or("--deadline", said.deadline, None)
     due = DueDates() if said.pairs else past.office_of(said).settings.due
     names = naming.known_to(said)
     compliance = compliance_parts(last, said.year, deadline, due, names, most)
