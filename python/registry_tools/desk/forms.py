@@ -19,6 +19,7 @@ from registry_tools.texts.in_words import grouped
 
 # What may be chosen for a field of an instruction.
 CHOICES = {"kind": rules.KINDS, "status": faults.STATUSES}
+OF_ACCOUNTS = {"from", "account", "other", "to", *(f"to{place}" for place in sheets.LATER_SHARES)}
 # How many working days before the next day, and behind it, are offered as the day of a proposal.
 BEFORE, BEHIND = 15, 5
 KEEP, DROP = "keep", "leave out"
@@ -42,19 +43,17 @@ def accounts_offered(own: Reading, most: int) -> list[tuple[int, str]]:
 
 def words_of_account(row: list[str], holder: Any) -> str:
     """An account in a line, of its first row; `holder` tells the name of a number."""
-    held = f"general {grouped(row[8])}, aviation {grouped(row[9])}"
-    return f"{row[2]} of {holder(row[3])}, {row[4]}: {held}"
+    return f"{row[2]} of {holder(row[3])}, {row[4]}: general {grouped(row[8])}, aviation {grouped(row[9])}"
 
 
-def dates_of_proposal(own: Reading) -> list[tuple[datetime.date, bool]]:
-    """The days on which an instruction may have been proposed, of which that of the next day is chosen."""
+def dates_of_proposal(own: Reading) -> tuple[datetime.date | None, list[datetime.date]]:
+    """The next day, and the days on which an instruction of it may have been proposed; none, if it can't be made."""
     try:
         day = own.text_of_next().head
     except WordsFault:
-        return []
+        return None, []
     before = [date for date in day.working_days if date < day.date][-BEFORE:]
-    behind = [date for date in day.working_days if date > day.date][:BEHIND]
-    return [(date, date == day.date) for date in [*before, day.date, *behind]]
+    return day.date, [*before, day.date, *[date for date in day.working_days if date > day.date][:BEHIND]]
 
 
 def table_of_instruction(said: Said) -> str:

@@ -1,5 +1,5 @@
-"""What would come of files and of changes by hand, before somebody says yes: they are put into a copy of next/, and
-tried by the functions behind the commands."""
+"""What would come of files, of changes by hand, of names and of taking a day back, before somebody says yes: by the
+functions behind the commands, in a copy of next/."""
 import contextlib
 import datetime
 import re
@@ -7,21 +7,24 @@ import shutil
 import tempfile
 from dataclasses import dataclass, field
 from pathlib import Path
-from typing import Iterator, NoReturn
+from typing import Any, Iterator, NoReturn
 
 from registry_tools.desk.reading import Reading
-from registry_tools.desk.words import label
+from registry_tools.desk.words import item_in_words, label
 from registry_tools.errors import FileFault, WordsFault
-from registry_tools.office import composing, hand_in, handed, handed_journal, trial
+from registry_tools.office import composing, hand_in, handed, handed_journal, label as labelling, trial, undo
 from registry_tools.office.changes import change
 from registry_tools.office.folder import Office
 from registry_tools.office.incoming import Forms
+from registry_tools.office.journal import Event
 from registry_tools.options import Words
-
+from registry_tools.texts.in_words import instruction_in_words
+from registry_tools.texts.pending import read_waits
 
 # What an instruction that was typed is called, and a cell of it in a message.
 TYPED = "typed at the desk.csv"
 CELL_TYPED = re.compile(re.escape(TYPED) + ", cell [A-Z]+2: ([a-z]+[2-8]?)")
+Rows = list[tuple[Any, ...]]
 
 
 class TellingWords(Words):
@@ -94,6 +97,29 @@ def look_at_change(own: Reading, asked: list[str]) -> change.Difference:
         composing.last_day(office)
         made = change.edits_of(said, own.text_of_next().head.lags)
         return change.look_at(there, next_day, office, made, "nobody yet", "no reason yet")
+
+
+def look_at_undo(own: Reading, last: Event, date: datetime.date) -> tuple[Rows, Rows]:
+    """What would be handed in again, and what would wait again, if the last day was taken back for this day or a later
+    one."""
+    with tempfile.TemporaryDirectory(dir=own.private) as place:
+        there, _ = undo.put_again(own.office(), last, date, Path(place), last.line)
+        rows: Rows = [(i.place, item_in_words(i), i.part.name, i.part.who) for i in there.items(*handed.KINDS)]
+        path = Path(place) / handed.WAITS
+        waits = read_waits(str(path)) if path.exists() else []
+        return rows, [(str(w.due or ""), w.record, instruction_in_words(w.instruction)) for w in waits]
+
+
+def look_at_names(own: Reading, asked: list[str]) -> tuple[Rows, list[str]]:
+    """What names would be new, each with what it was, and what may be a slip. Raises WordsFault or FileFault as the
+    command does."""
+    parser = TellingWords()
+    labelling.add_words(parser)
+    said, before = parser.parse_args(asked), own.names()
+    labelling.must_fit(said)
+    new = labelling.new_of([*labelling.asked_of(said)], before)
+    rows: Rows = [(f"{name.kind} {name.number}", before.name_of(*name[:2]), name.name) for name in new]
+    return rows, [*labelling.doubts_of(own.office(), new, before)]
 
 
 def first_rows(path: Path, most: int = 5) -> list[str]:

@@ -11,7 +11,7 @@ from dataclasses import replace
 from pathlib import Path
 from typing import Any, Callable, Iterator, TypeVar
 
-from registry_tools.desk.waiting import DeskSettled, DeskStatement, waits_until
+from registry_tools.desk.waiting import DeskSettled, DeskStatement
 from registry_tools.errors import FileFault, WordsFault
 from registry_tools.office import close, composing, folder, handed, labels, lock, past, prepared, trial
 from registry_tools.office.composing import NextDay
@@ -19,12 +19,11 @@ from registry_tools.office.folder import Office
 from registry_tools.office.journal import Event
 from registry_tools.office.labels import Labels
 from registry_tools.office.layout import JOURNAL, LABELS, SETTINGS
-from registry_tools.pages import month
+from registry_tools.pages import indexed, month
 from registry_tools.pages.account import own_parts
 from registry_tools.pages.html import Frame, Markup, joined
 from registry_tools.pages.rulebook import Rulebook
 from registry_tools.pages.settled import ByHand, by_hand_before
-from registry_tools.pages.statement import DayOfAccounts
 from registry_tools.questions import find, history
 from registry_tools.texts.day_text import DayText
 from registry_tools.texts.pending import read_pending, waiting_before
@@ -132,9 +131,15 @@ class Reading:
         return self.once(("settled", event.date), state, lambda: read_settled(self.office(), event))
 
     def waits_until(self, date: datetime.date, record: int) -> str:
-        """Until when an instruction of a settled day waits that was not due on it."""
-        settled = self.settled(date)
-        return settled.outcome(settled.log[record - settled.head.next_record]) if settled else waits_until(None)
+        """Until when an instruction waits that was not due on a settled day: the next day's file of what waits says
+        it, or that of the folder."""
+        office = self.office()
+        later = next((event for event in office.journal.filed() if event.date > date), None)
+        path = past.as_filed(office, later, "waiting") if later else office.next_folder / handed.WAITS
+        state = office.journal.last_line
+        waits = self.once(("waits", date), state, lambda: [own for own, _ in read_pending(str(path)).rows])
+        due = next((own.due or own.entered for own in waits if own.record == record), None)
+        return f"waits until {due.day} {due:%B} {due.year}" if due else "waits: the calendar has no due day"
 
     def by_hand(self, date: datetime.date) -> ByHand:
         """What people changed before a settled day."""
@@ -149,23 +154,13 @@ class Reading:
 
         return self.once(("by hand", date), filed[-1].line, work)
 
-    def days_of_statement(self) -> list[DayOfAccounts]:
-        """The last days, of which the page of an account tells."""
-        office = self.office()
-
-        def work() -> list[DayOfAccounts]:
-            filed = office.journal.filed()[-DAYS_OF_STATEMENT:]
-            days = past.read_all([past.pair_of(office, event) for event in filed])
-            return [DayOfAccounts(own.day, own.report) for own in days]
-
-        return self.once("statement", office.journal.last_line, work)
-
     def account(self, number: int) -> Markup | None:
         """All that stands on the page of an account; None, if there is no such account."""
-        settled = self.settled()
+        settled, office = self.settled(), self.asked().opened
         if settled is None or number not in settled.report.book:
             return None
-        own = DeskStatement(settled, number, self.days_of_statement(), self.waits_until)
+        days = indexed.days_of(office, number, DAYS_OF_STATEMENT)
+        own = DeskStatement(settled, number, days, self.waits_until)
         return joined(*own_parts(settled, settled.report.book[number].account(), own), *own.waited_parts())
 
     def asked(self, **more: Any) -> argparse.Namespace:
@@ -217,19 +212,21 @@ class Reading:
         later = [date for date in composing.working_days(office, last, handed_in) if date > last.date]
         return [first, *(date for date in later if date != first)][:MOST_DATES]
 
+    def of_next(self, name: str, date: datetime.date, work: Callable[[], T]) -> T:
+        """What was worked out of the next day, if it is that of this date, or of the last one, as the folder is now."""
+        return self.once((name, date), f"{folder.state_of(self.office())} {date}", work)
+
     def next_day(self, word: str | None = None) -> NextDay:
         """The next day, as it stands."""
         office = self.office()
         handed_in = office.handed_in()
         date = composing.settlement_date(word, office, handed_in)
-        state = f"{folder.state_of(office)} {date}"
-        return self.once(("composed", date), state, lambda: composing.compose(office, handed_in.until(date), date))
+        return self.of_next("composed", date, lambda: composing.compose(office, handed_in.until(date), date))
 
     def text_of_next(self) -> DayText:
         """The text of the next day as it stands."""
         next_day = self.next_day()
-        state = f"{folder.state_of(self.office())} {next_day.date}"
-        return self.once("text", state, lambda: next_day.day(NEXT))
+        return self.of_next("text", next_day.date, lambda: next_day.day(NEXT))
 
     def tried(self, word: str | None) -> tuple[NextDay, list[trial.Looked], list[str]]:
         """The next day, what would come of each instruction, with what is new since the last look, and what the library
@@ -240,8 +237,7 @@ class Reading:
             looked = trial.look(next_day, next_day.day(NEXT), self.names())
             return looked, trial.of_library(next_day, looked)
 
-        state = f"{folder.state_of(office)} {next_day.date}"
-        looked, otherwise = self.once(("tried", next_day.date), state, work)
+        looked, otherwise = self.of_next("tried", next_day.date, work)
         trial.mark_new(office.next_folder / handed.LOOKED, looked)
         return next_day, looked, otherwise
 
@@ -253,8 +249,7 @@ class Reading:
         def work() -> close.Outcome:
             return close.outcome_of_day(close.settle(office, next_day, by_second=True))
 
-        state = f"{folder.state_of(office)} {next_day.date}"
-        return self.once(("closing", next_day.date), state, work), left
+        return self.of_next("closing", next_day.date, work), left
 
 
 def looks_of(path: Path) -> str:

@@ -11,6 +11,7 @@ from registry_tools.office.changes import edits
 from registry_tools.office.handed import Item
 from registry_tools.office.incoming import EMPTY_TABLE
 from registry_tools.pages.html import markup
+from registry_tools.pages.settled import long_date
 from registry_tools.sheets.importing import OTHER_FORM
 from registry_tools.sheets.table import OTHER_HEADINGS
 from registry_tools.texts import in_words
@@ -24,7 +25,8 @@ FIELDS = {
 }  # fmt: skip
 # What words of the texts are called, and what a change by hand does.
 HOW = {edits.PUT: "set", edits.ADD: "add", edits.DROP: "leave out"}
-CALLED = {"both": "propose and approve", **tables.KINDS, **{act.word: act.name for act in tables.ACTS}}
+CALLED = {"both": "propose and approve", "other": "another day", "labels": "names", **tables.KINDS,
+          **{act.word: act.name for act in tables.ACTS}}  # fmt: skip
 LAGS = {
     "trusted": "Working days that a transfer to an account of the trusted list waits",
     "other": "Working days that another transfer waits",
@@ -49,13 +51,13 @@ AT_THE_DESK = {
     EMPTY_TABLE: "the page Hand in has empty tables", OTHER_HEADINGS: "the page Hand in has empty tables",
     MORE_WORK: "add working days (Change, the rules)", "--release releases it": "its box on the page Send releases it",
     "nothing to change: ./day change --help tells what can be": "nothing to change: the form says what is there",
-    "./day label lists the names": "the page Accounts has the names",
     "settled by no proved engine, as far as the journal says": "days for which the journal names no proved engine",
 }  # fmt: skip
 PAGES = {
     "hand-in": "Hand in", "take-back": "The next day", "try": "The next day", "change": "Change", "close": "Close",
-    "undo": "Days", "release": "Days", "status": "Today", "approve": "Today", "audit": "Audit", "send": "Send",
+    "undo": "Undo", "release": "Release", "status": "Today", "approve": "Today", "audit": "Audit", "send": "Send",
     "next": "The next day", "find": "Find", "history": "Accounts", "compliance": "Compliance", "month": "Months",
+    "label": "Names",
 }  # fmt: skip
 OPTIONS = {"date": "the day", "day": "the day", "from": "the first day", "to": "the last day", "who": "your name",
            "second": "by the second answer", "yes": "a yes"}  # fmt: skip
@@ -75,6 +77,11 @@ def label(name: str) -> str:
     """What a column of an instruction is called; the later receivers have a number."""
     base, number = re.fullmatch("([a-z]*)([0-9]*)", name).groups()  # type: ignore[union-attr]
     return f"Receiver {number}" if number and base == "to" else f"Amount {number}" if number else FIELDS[base]
+
+
+def called(word: object) -> str:
+    """What a word of the texts is called; a date as people write it."""
+    return long_date(word) if isinstance(word, datetime.date) else CALLED.get(str(word), str(word))
 
 
 def local(at: str) -> str:
@@ -102,7 +109,7 @@ def edit_in_words(row: str) -> str:
     own = edits.edit_of(row)
     of = f"account {own.number}" if own.number else "the rules"
     if own.how == edits.OPEN:
-        return f"{of} is new: {CALLED[own.words[0]]}, holder {own.words[1]}"
+        return f"{of} is new: {called(own.words[0])}, holder {own.words[1]}"
     return f"{of}: {HOW[own.how]} {words_of_row(','.join(own.words))}"
 
 
@@ -166,7 +173,7 @@ def words_of_row(row: str, left_out: Collection[int] = ()) -> str:
     if tag in FIELDS_OF:
         named = enumerate(zip(FIELDS_OF[tag], fields), 1)
         return ", ".join(f"{name}: {field}" for place, (name, field) in named if place not in left_out)
-    more = ": " + " ".join(CALLED.get(own, own) for own in fields[1:]) if len(fields) > 1 else ""
+    more = ": " + " ".join(called(own) for own in fields[1:]) if len(fields) > 1 else ""
     return f"{tag} {fields[0]}{more}" if fields else "nothing"
 
 

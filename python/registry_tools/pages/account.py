@@ -1,12 +1,12 @@
 """The pages of accounts: a statement for each holder, with nothing on it that belongs to others."""
-from typing import Iterator
+from typing import Iterator, Sequence
 
 from registry_tools.office.labels import ACCOUNT
 from registry_tools.pages.compliance import amount
 from registry_tools.pages.html import Cells, Markup, Table, facts, heading, paragraph
 from registry_tools.pages.plan import figure
 from registry_tools.pages.settled import Settled, long_date
-from registry_tools.pages.statement import KINDS, ROOT, Balances, DayOfAccounts, Statement
+from registry_tools.pages.statement import KINDS, ROOT, Balances, DayTold, Statement
 from registry_tools.questions import compliance
 from registry_tools.second import rules
 from registry_tools.texts.in_words import grouped
@@ -224,7 +224,7 @@ def own_parts(settled: Settled, account: rules.Account, statement: Statement) ->
     yield from standing_parts(settled, account, statement)
 
 
-def account_page(settled: Settled, number: int, days: list[DayOfAccounts]) -> str:
+def account_page(settled: Settled, number: int, days: Sequence[DayTold]) -> str:
     """The page of an account; `days` are those of the statement, of which the last one is the settled day."""
     account = settled.report.book[number].account()
     statement = Statement(settled, number, days)

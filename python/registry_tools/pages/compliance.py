@@ -1,4 +1,5 @@
 """The page of compliance: how each operator and aircraft operator stands for a year, and the list of all accounts."""
+from collections import Counter
 from typing import Iterator, Sequence
 
 from registry_tools.errors import WordsFault
@@ -6,7 +7,7 @@ from registry_tools.office.labels import ACCOUNT
 from registry_tools.pages import index
 from registry_tools.pages.html import Cells, Markup, Table, link, paragraph, table, tag, words_in_cell
 from registry_tools.pages.rulebook import RULES
-from registry_tools.pages.settled import LongTable, Settled, count_of
+from registry_tools.pages.settled import OUTCOMES, LongTable, Settled, count_of, kind_of
 from registry_tools.questions import compliance
 from registry_tools.questions.compliance import Standing
 from registry_tools.texts.in_words import grouped
@@ -142,23 +143,18 @@ def compliance_pages(settled: Settled, files: dict[str, str], year: int | None, 
     yield from own.pages(settled.frame, note=note, is_across=True)
 
 
-ACCOUNT_COLUMNS = ["Account", "Kind", "Holder", "Status", "General", "Aviation", "Done", "Refused"]
+ACCOUNT_COLUMNS = ["Account", "Kind", "Holder", "Status", "General", "Aviation", "Done", "Refused", "Waiting"]
 NUMBERS_OF_ACCOUNT = ACCOUNT_COLUMNS[4:]
 NAME = "Name"
 
 
 def account_rows(settled: Settled) -> Iterator[Cells]:
-    """What each account holds, and how many instructions about it were done and refused."""
-    done: dict[int, int] = {}
-    refused: dict[int, int] = {}
-    for logged in settled.log:
-        counted = done if logged.is_done else refused
-        for number in logged.touched():
-            counted[number] = counted.get(number, 0) + 1
+    """What each account holds, and how many instructions about it were done and refused, and wait."""
+    count = Counter((number, kind_of(own)) for own in settled.log for number in own.touched())
     starts = index.starts_of(settled.report.numbers)
     for number, block in settled.report.book.items():
         _, _, kind, holder, status, _, _, _, general, aviation = block.rows[0].split(",")
-        touched = (grouped(counts.get(number, 0)) for counts in (done, refused))
+        touched = (grouped(count[number, kind]) for kind in OUTCOMES)
         named = [settled.names.name_of(ACCOUNT, number)] if settled.names.has(ACCOUNT) else []
         yield (
             index.cell(settled, number, number in starts), *named, kind, settled.names.holder(holder), status,
@@ -172,8 +168,8 @@ def account_list_pages(settled: Settled, files: dict[str, str], note: str) -> It
     lead = paragraph(
         f"{count_of(len(rows), 'account', 'accounts')} after {settled.head.date}: what each holds, and how many "
         "instructions of the day that "
-        "move its allowances or are about it were done and refused. What was refused as UnknownAccount is counted at "
-        "no account.",
+        "move its allowances or are about it were done and refused, and wait for their due day. What was refused as "
+        "UnknownAccount is counted at no account.",
         class_="lead",
     )
 

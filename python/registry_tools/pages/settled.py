@@ -19,6 +19,9 @@ from registry_tools.texts.pending import Waiting
 from registry_tools.texts.report import LogRow, Report
 
 Row = TypeVar("Row")
+# What becomes of an instruction.
+OUTCOMES = ("done", "refused", "waiting")
+WAITS = "waits for its due day"
 # In how many rows a table is cut into pages.
 ROWS_OF_PAGE = 1_000
 NO_DUE_DAY = "none in the calendar"
@@ -40,8 +43,13 @@ def record_in_words(logged: LogRow) -> str:
 def outcome_in_words(logged: LogRow) -> str:
     """What came of an instruction."""
     if not logged.is_done:
-        return f"refused: {logged.name}"
+        return WAITS if logged.name == NOT_DUE else f"refused: {logged.name}"
     return "done" if logged.figure is None else f"done, figure {grouped(logged.figure)}"
+
+
+def kind_of(logged: LogRow) -> str:
+    """Which of the outcomes it is: an instruction was done or refused, or only waits for its due day."""
+    return "done" if logged.is_done else "waiting" if logged.name == NOT_DUE else "refused"
 
 
 @functools.lru_cache(maxsize=1_000)
@@ -112,10 +120,11 @@ class Settled:
         return f"{first} to {last}" if first != last else str(first)
 
     def refused(self) -> dict[int, list[LogRow]]:
-        """The refused instructions by the code of the check, in the order of the checks."""
+        """The refused instructions by the code of the check, in the order of the checks. What only waits for its due
+        day is none of them."""
         found: dict[int, list[LogRow]] = {}
         for logged in self.log:
-            if not logged.is_done:
+            if kind_of(logged) == "refused":
                 found.setdefault(logged.code, []).append(logged)
         return dict(sorted(found.items()))
 

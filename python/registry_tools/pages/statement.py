@@ -1,6 +1,6 @@
 """What a statement tells of an account: what came in and went out on its days, what was refused, and what waits."""
 import datetime
-from typing import Iterator
+from typing import Iterator, Mapping, Protocol, Sequence
 
 from registry_tools.pages.html import Cells, Markup, Table, heading, paragraph
 from registry_tools.pages.rulebook import ACTS
@@ -21,8 +21,23 @@ OF_ANOTHER = "An instruction of another account"
 Balances = list[tuple[object, dict[str, int]]]
 
 
+class DayTold(Protocol):
+    """What a statement asks of each of its days."""
+
+    date: datetime.date
+    rows: Mapping[int, Sequence[OwnRow]]
+
+    def opening(self, number: int) -> dict[str, int] | None:
+        """What an account held before the day; None if there was no such account."""
+
+    def users(self, number: int) -> set[str]:
+        """The representatives of an account on the day, as they are spelled."""
+
+
 class DayOfAccounts:
     """A day of the statement: its log rows by account, and what each account held before it."""
+
+    rows: Mapping[int, Sequence[OwnRow]]
 
     def __init__(self, day: DayText, report: Report) -> None:
         self.day, self.date = day, day.head.date
@@ -34,6 +49,10 @@ class DayOfAccounts:
         if block is None:
             return None
         return dict(zip(KINDS, map(int, block.held_fields)))
+
+    def users(self, number: int) -> set[str]:
+        """The representatives of an account on the day, as they are spelled."""
+        return users_of(self.day.book.get(number))
 
 
 class Own:
@@ -80,7 +99,7 @@ class Statement:
     """What happened at an account over one or several days: the entries of each kind of allowance, other entries, and
     refusals."""
 
-    def __init__(self, settled: Settled, number: int, days: list[DayOfAccounts]) -> None:
+    def __init__(self, settled: Settled, number: int, days: Sequence[DayTold]) -> None:
         self.settled, self.number, self.days = settled, number, days
         # Its representatives on the day that is followed: By names those, as the own statement of that day does.
         self.users: set[str] = set()
@@ -95,12 +114,12 @@ class Statement:
         for day in days:
             self.follow(day)
 
-    def follow(self, day: DayOfAccounts) -> None:
+    def follow(self, day: DayTold) -> None:
         """Enters a day."""
         opening = day.opening(self.number)
         if opening is None:
             return
-        self.users = users_of(day.day.book[self.number])
+        self.users = day.users(self.number)
         for kind in KINDS:
             if opening[kind] != self.held[kind]:
                 self.enter((day.date, "", "Changed by hand before this day", ""), kind, opening[kind])
