@@ -1,4 +1,5 @@
 """The desk as a Flask application: its addresses, and what its pages have in common."""
+import datetime
 import functools
 import secrets
 from pathlib import Path
@@ -11,7 +12,7 @@ from werkzeug.wrappers import Response
 from registry_tools.desk import gate, pages, posts, questions, shown, words
 from registry_tools.desk.gate import Served
 from registry_tools.errors import FileFault, WordsFault
-from registry_tools.pages import html
+from registry_tools.pages import beside, html
 from registry_tools.pages.rulebook import FORMATS, RULES
 from registry_tools.pages.settled import long_date
 from registry_tools.second import faults
@@ -43,8 +44,8 @@ POST: dict[str, Callable[..., Any]] = {
     "/next/seen": functools.partial(posts.begin, command="try"),
     "/put-right": functools.partial(posts.begin, command="status"),
     "/change/look": posts.look_at_change, "/change/make": posts.make_change, "/close/settle": posts.settle,
-    "/undo/yes": posts.undo, "/release/yes": posts.release, "/approve": posts.approve, "/names/look": posts.look_at_names,
-    "/names/give": posts.give_names, "/audit/begin": posts.audit, "/send/begin": posts.send,
+    "/undo/yes": posts.undo, "/release/yes": posts.release, "/names/look": posts.look_at_names,
+    "/names/give": posts.give_names, "/approve": posts.approve, "/audit/begin": posts.audit, "/send/begin": posts.send,
 }  # fmt: skip
 # What somebody may begin who changes nothing.
 OF_LOOKING = {"/name", "/audit/begin", "/send/begin"}
@@ -63,8 +64,8 @@ def make(served: Served) -> flask.Flask:
     app.request_class = Request
     # (cookies know no ports: another desk has another one)
     app.config.update(
-        OFFICE=str(served.path), SECRET_KEY=secrets.token_bytes(32), MAX_CONTENT_LENGTH=MOST_BYTES,
-        MAX_FORM_MEMORY_SIZE=MOST_FORM, SESSION_COOKIE_NAME=f"desk-{served.host.rpartition(':')[2]}",
+        PATHS=(str(served.path), str(served.jobs.private)), SECRET_KEY=secrets.token_bytes(32),
+        MAX_CONTENT_LENGTH=MOST_BYTES, MAX_FORM_MEMORY_SIZE=MOST_FORM, SESSION_COOKIE_NAME=f"desk-{served.host.rpartition(':')[2]}",
         SESSION_COOKIE_HTTPONLY=True, SESSION_COOKIE_SAMESITE="Strict",
     )  # fmt: skip
     # (the gate stands before all pages, also those that are not there)
@@ -124,12 +125,13 @@ def dress(app: flask.Flask, served: Served) -> None:
         sections=sections, is_look=served.is_look, office=served.path.name,
         token=lambda: flask.session["token"], once=lambda: secrets.token_hex(8), state=lambda: flask.g.state,
         who=lambda: gate.known_name(served), says_name=not served.who and not served.header,
-        has_leftovers=served.reading.has_leftovers, apart=words.apart,
+        has_leftovers=served.reading.has_leftovers, apart=beside.apart,
         table=shown.sorted_table, acts=faults.ACT_WORDS, lag_words=words.LAGS,
         meaning=lambda name: checks()[name].meaning,
     )  # fmt: skip
     app.jinja_env.filters.update(
-        grouped=grouped, local=words.local, label=words.label, date=long_date, called=words.called
+        grouped=grouped, local=words.local, label=words.label, date=long_date,
+        called=lambda word: long_date(word) if isinstance(word, datetime.date) else beside.called(word),
     )
     app.jinja_env.trim_blocks = app.jinja_env.lstrip_blocks = True
 

@@ -7,31 +7,25 @@ import shutil
 import tempfile
 from dataclasses import dataclass, field
 from pathlib import Path
-from typing import Any, Iterator, NoReturn
+from typing import Any, Iterator
 
 from registry_tools.desk.reading import Reading
-from registry_tools.desk.words import item_in_words, label
+from registry_tools.desk.words import label
 from registry_tools.errors import FileFault, WordsFault
 from registry_tools.office import composing, hand_in, handed, handed_journal, label as labelling, trial, undo
 from registry_tools.office.changes import change
 from registry_tools.office.folder import Office
 from registry_tools.office.incoming import Forms
 from registry_tools.office.journal import Event
-from registry_tools.options import Words
+from registry_tools.options import TellingWords
+from registry_tools.pages.beside import item_in_words
 from registry_tools.texts.in_words import instruction_in_words
 from registry_tools.texts.pending import read_waits
 
 # What an instruction that was typed is called, and a cell of it in a message.
 TYPED = "typed at the desk.csv"
-CELL_TYPED = re.compile(re.escape(TYPED) + ", cell [A-Z]+2: ([a-z]+[2-8]?)")
+CELL_TYPED = re.compile("(?:.*/)?" + re.escape(TYPED) + ", cell [A-Z]+2: ([a-z]+[2-8]?)")
 Rows = list[tuple[Any, ...]]
-
-
-class TellingWords(Words):
-    """A parser of words that says by a fault what it does not take, and ends nothing."""
-
-    def error(self, message: str) -> NoReturn:
-        raise WordsFault(message)
 
 
 @dataclass
@@ -39,16 +33,13 @@ class Look:
     """What would come of files that somebody wants to hand in."""
 
     # What is wrong, if something is: then nothing else is known.
-    faults: list[str] = field(default_factory=list)
+    faults: list[str]
     # The file and the line of a row that the folder has had, and that may come once more if it is meant.
     meant: tuple[int, int] | None = None
-    # What comes once more.
-    again: list[str] = field(default_factory=list)
-    parts: list[handed.Part] = field(default_factory=list)
-    rows: list[tuple[str, list[str]]] = field(default_factory=list)
+    # What would be handed in, what would come of its instructions, and the first rows of each file.
+    added: hand_in.Added | None = None
     looked: list[trial.Looked] = field(default_factory=list)
-    notes: list[str] = field(default_factory=list)
-    date: datetime.date | None = None
+    rows: list[tuple[str, list[str]]] = field(default_factory=list)
 
 
 @contextlib.contextmanager
@@ -73,19 +64,14 @@ def look_at_incoming(own: Reading, paths: list[Path], again: list[tuple[int, int
     try:
         with copy_of_next(own) as (office, there):
             added = hand_in.look_at(office, there, [*map(str, paths)], "nobody yet", words, forms)
-            places = added.places()
-            looked = [tried for tried in added.looked if tried.place in places]
-            rows = [(part.name, first_rows(there.folder / part.file)) for part in added.parts]
-            told = [line.replace(f"{paths[0].parent}/", "") for line in added.again]
-            return Look([], None, told, added.parts, rows, looked, added.next_day.notes, added.next_day.date)
+            looked = [tried for tried in added.looked if tried.place in added.places()]
+            return Look([], None, added, looked, [(i.name, first_rows(there.folder / i.file)) for i in added.parts])
     except hand_in.HadFault as fault:
         # (how it may come once more is told by a button)
-        text = str(fault).partition("; --again")[0]
         place = [*map(str, paths)].index(str(fault.path))
-        return Look([text.replace(f"{paths[0].parent}/", "")], (place, fault.at))
+        return Look([str(fault).partition("; --again")[0]], (place, fault.at))
     except (FileFault, WordsFault) as fault:
-        said = str(fault).replace(f"{paths[0].parent}/", "")
-        return Look(CELL_TYPED.sub(lambda found: label(found[1]), said).split("\n"))
+        return Look(CELL_TYPED.sub(lambda found: label(found[1]), str(fault)).split("\n"))
 
 
 def look_at_change(own: Reading, asked: list[str]) -> change.Difference:

@@ -1,5 +1,4 @@
 """The pages of the day's work: today, what is handed in, the next day, a change by hand, closing, and the days."""
-import datetime
 from collections import Counter
 from typing import Any, Callable, Iterator, Mapping, Sequence
 
@@ -11,24 +10,23 @@ from registry_tools.desk import forms, gate, looks, shown
 from registry_tools.desk.gate import Served
 from registry_tools.desk.reading import Reading
 from registry_tools.desk.shown import asked, number_asked, row_of_taken, show_page, sorted_table
-from registry_tools.desk.words import BESIDE, item_in_words, local, side_by_side
+from registry_tools.desk.words import local
 from registry_tools.errors import FileFault, WordsFault
 from registry_tools.notes import LOOK
 from registry_tools.office import approvals, awaited, handed, release as releasing, taken, undo as undoing
-from registry_tools.office.changes import listing
 from registry_tools.office.settling import BY_RUN, settler_in_words
-from registry_tools.office.trial import Looked
+from registry_tools.office.trial import Looked, whys
 from registry_tools.office.waits import waits_of
 from registry_tools.pages import summary
+from registry_tools.pages.beside import item_in_words
 from registry_tools.pages.html import Markup, link, paragraph, tag
 from registry_tools.pages.plan import plan_parts
-from registry_tools.pages.settled import OUTCOMES, WAITS, Settled, by_hand_parts, kind_of, long_date, record_in_words
-from registry_tools.pages.settled import outcome_in_words
+from registry_tools.pages.settled import (
+    OUTCOMES, WAITS, Settled, by_hand_parts, kind_of, long_date, outcome_in_words, record_in_words,
+)  # fmt: skip
 from registry_tools.questions import due
 from registry_tools.second import faults, rules
-from registry_tools.sheets import columns as sheets
 from registry_tools.sheets import form
-from registry_tools.tables import RIGHTS
 from registry_tools.texts.books import Sums, sums_of, sums_told
 from registry_tools.texts.in_words import grouped, instruction_in_words
 
@@ -38,8 +36,8 @@ WAITING = ["Due", "Record", "Instruction"]
 # What there are empty tables of; and how the last day of a year may be written in a spreadsheet.
 EMPTY = [own for own in form.WHAT if own != form.LABELS]
 DATES = ["", "31.12.2026", "31/12/2026", "12/31/2026"]
-# Of more accounts none is offered in a list; and so many dates are told that come next.
-MOST_OFFERED, MOST_COMING = 1_000, 5
+# So many dates are told that come next.
+MOST_COMING = 5
 RELEASED = (
     "Released says that others know of a day: letters were sent, or somebody was told what it has. From then on it is "
     "not undone any more, and that is not taken back: what is wrong in it, an instruction of a later day corrects."
@@ -79,13 +77,10 @@ def new_of(own: Reading) -> list[Looked]:
 
 def hand_in(served: Served) -> Any:
     """The page with the forms for instructions and files."""
-    act, own = asked("act"), served.reading
-    columns = sheets.columns_of_act(act) if act in faults.ACT_WORDS else []
-    next_date, proposed = forms.dates_of_proposal(own) if columns else (None, [])
+    act, own = asked("act") if asked("act") in faults.ACT_WORDS else "", served.reading
     return show_page(
-        "hand_in", "Hand in", act=act if columns else "", columns=columns, said=flask.request.args, empty=EMPTY,
-        known=forms.accounts_offered(own, MOST_OFFERED) if columns else [], dates=DATES, proposed=proposed,
-        next_date=next_date, choices=forms.CHOICES, of_accounts=forms.OF_ACCOUNTS,
+        "hand_in", "Hand in", act=act, fields=forms.instruction_fields(own, act) if act else [], empty=EMPTY,
+        known=forms.accounts_offered(own) if act else [], dates=DATES, later=forms.LATER,
     )  # fmt: skip
 
 
@@ -108,7 +103,7 @@ def next_day(served: Served) -> Any:
 
     return show_page(
         "next", "The next day", date=own.date, rows=rows, shown_row=cells, only=only, counts=counts,
-        views=views_of("/next?only={}", counts), whys=shown.whys([row[3] for row in rows]),
+        views=views_of("/next?only={}", counts), whys=whys([row[3] for row in rows]),
         notes=[*own.notes, *otherwise],
         others=[(item.place, item_in_words(item), item.part.name, item.part.who) for item in items], columns=HANDED_IN,
         shown_other=lambda row: (box(served, row[0]), *row[1:]), taken=[*map(row_of_taken, gone)],
@@ -138,13 +133,11 @@ def change(served: Served) -> Any:
     day = own.text_of_next()
     if number is not None and number not in day.book:
         raise WordsFault(f"there is no account {number} in the next day's text")
-    more: dict[str, Any] = forms.rule_fields(day) if of == "rules" else {}
+    fields = forms.rule_fields(day) if of == "rules" else forms.new_fields()
     if number is not None:
-        more = forms.account_fields(day.book[number], len(day.head.periods))
-    return show_page(
-        "change", "Change", account=number, of=of, date=day.head.date, **more,
-        known=forms.accounts_offered(own, MOST_OFFERED), kinds=faults.ACCOUNT_KINDS, rights=RIGHTS,
-    )  # fmt: skip
+        fields = forms.account_fields(day.book[number], len(day.head.periods))
+    known = forms.accounts_offered(own) if of == "account" and number is None else []
+    return show_page("change", "Change", account=number, of=of, date=day.head.date, fields=fields, known=known)
 
 
 def close(served: Served) -> Any:
@@ -249,11 +242,12 @@ def day(served: Served, word: str) -> Any:
     only = asked("only") if asked("only") in OUTCOMES else ""
     log = [row for row in settled.log if only in ("", kind_of(row))]
     rows = [(row.record, record_in_words(row), rules.named(row.instruction), outcome_in_words(row), row) for row in log]
-    accounts_of, counts = settled.accounts_of, {"": len(settled.log), **{kind: sum(kind_of(row) == kind for row in settled.log) for kind in OUTCOMES}}
+    count, accounts_of = Counter(kind for row in settled.log for kind in ("", kind_of(row))), settled.accounts_of
 
     def cells(row: Sequence[Any]) -> Sequence[Any]:
         return *row[:2], accounts_of(row[4]), own.waits_until(date, row[0]) if row[3] == WAITS else row[3]
 
+    counts = {kind: count[kind] for kind in ("", *OUTCOMES)}
     return show_page(
         "day", long_date(date), above=[*parts_of(settled, own)], rows=rows, only=only, counts=counts, shown_row=cells,
         views=views_of(f"/days/{date}?only={{}}#log", counts), plan=plan_parts(settled) if settled.log else [],
@@ -278,22 +272,7 @@ def parts_of(settled: Settled, own: Reading) -> Iterator[Markup]:
         yield sorted_table("Taken back before", TAKEN, gone, ["Place"], name="taken-")
     yield from (*summary.totals_parts(settled), tag("h2", "Changed by hand"))
     by_hand = own.by_hand(settled.head.date)
-    if by_hand.rows is None:
-        yield paragraph("This is the first day.")
-    elif not by_hand.rows:
-        yield from by_hand_parts(settled, by_hand)
-    else:
-        lines = [f"{row.account}: {row.words}" if row.account else row.words for row in by_hand.rows]
-        yield sorted_table("Before and after", BESIDE, side_by_side(lines), show=with_link, name="rows-")
-        items = listing.items_of_day(own.office().day_folder(settled.head.date))
-        who = [(local(item.part.at), item.part.who, item.part.name, item_in_words(item)) for item in items]
-        yield sorted_table("Who changed it, and why", ["At", "Who", "Why", "Change"], who, name="who-")
-
-
-def with_link(row: Sequence[Any]) -> Sequence[Any]:
-    """A row of what an account was and is, with a link to the account."""
-    number = row[0].removeprefix("account ")
-    return (link(f"/accounts/{number}", row[0]) if number.isdigit() else row[0], *row[1:])
+    yield from [paragraph("This is the first day.")] if by_hand.rows is None else by_hand_parts(settled, by_hand)
 
 
 def name(served: Served) -> Any:

@@ -7,12 +7,14 @@ import flask
 
 from registry_tools.desk import forms, gate, looks
 from registry_tools.desk.gate import Served
-from registry_tools.desk.shown import address_of, outcome, show_page, sorted_table, whys
-from registry_tools.desk.words import BESIDE, count_in_words, side_by_side
+from registry_tools.desk.shown import address_of, outcome, show_page, sorted_table
 from registry_tools.errors import WordsFault
+from registry_tools.office.hand_in import words_of_count
 from registry_tools.office.people import MAY_WAIT
+from registry_tools.office.trial import whys
 from registry_tools.office.words import one_line
 from registry_tools.options import word_of
+from registry_tools.pages.beside import BESIDE, side_by_side
 
 ONCE, STATE = re.compile("[0-9a-f]{16}"), re.compile("[0-9a-f]{64}[.][0-9]{1,9}[.][0-9]{1,9}[.][0-9a-f]{16}")
 PLACE, AGAIN = re.compile("[1-9][0-9]{0,8}"), re.compile("([0-9]{1,3}):([1-9][0-9]{0,8})")
@@ -46,14 +48,10 @@ def way_back() -> str:
 
 def do(served: Served, command: str, *more: str, upload: str = "", makes: bool = False) -> Any:
     """Has a command do it, for somebody who saw the folder in the state of the form; and goes to its answer. Raises
-    WordsFault if somebody changed the folder since."""
-    who, own, state = gate.name(served), once(), form("state")
+    WordsFault if the form has no state."""
+    who, state = gate.name(served), form("state")
     if not STATE.fullmatch(state):
         raise WordsFault(NOT_WHOLE)
-    if own not in served.jobs.jobs and state != flask.g.state:
-        # (the command would refuse it too: here it is said what is new)
-        since = "; ".join(served.reading.since(state)) or "another first text stands there"
-        raise WordsFault(f"somebody changed the folder after your page was made, and nothing was done: {since}")
     words = [f"--who={who}", f"--seen={state}", *gate.speaks_for(served, who), *more]
     return begin(served, command, *words, seen=state, upload=upload, makes=makes)
 
@@ -63,9 +61,7 @@ def do_with_why(served: Served, command: str, *more: str, upload: str = "") -> A
     return do(served, command, f"--why={one_line('why', form('why'))}", *more, upload=upload)
 
 
-def begin(
-    served: Served, command: str, *words: str, seen: str = "", upload: str = "", makes: bool = False
-) -> Any:
+def begin(served: Served, command: str, *words: str, seen: str = "", upload: str = "", makes: bool = False) -> Any:
     """Has a command work, and goes to its answer."""
     job = served.jobs.start(once(), command, [*words], seen, way_back(), upload, makes)
     return flask.redirect(f"/jobs/{job.number}", 303)
@@ -111,7 +107,8 @@ def look(served: Served) -> Any:
     return show_page(
         "look", "A look before it is handed in", own=own, place=place, dates=dates, whys=whys(own.looked),
         again=[("again", f"{file}:{line}") for file, line in again], back=address_of("/hand-in", {**typed}),
-        counts=[(part.name, count_in_words(part)) for part in own.parts], names=[path.name for path in paths],
+        counts=[(part.name, words_of_count(part)) for part in own.added.parts] if own.added else [],
+        names=[path.name for path in paths],
         rows=[(tried.place, tried.words, tried.said(), tried) for tried in own.looked],
         shown_row=lambda row: (row[0], row[1], outcome(row[3])),
     )  # fmt: skip
@@ -150,12 +147,13 @@ def take_back(served: Served) -> Any:
 
 def look_at_change(served: Served) -> Any:
     """Shows what a change by hand would change."""
-    words = forms.words_of_change(flask.request.form, served.reading)
+    words = [*forms.words_of_change(flask.request.form, served.reading)]
     own = served.reading.whole(lambda: looks.look_at_change(served.reading, words))
     return show_page(
         "yes", "A look before it is changed", fields=fields_of_form(), notes=own.notes,
         lead=f"Nothing is changed yet. For {own.after.head.date} this would be:", action="/change/make",
-        told=[sorted_table("Before and after", BESIDE, side_by_side(own.rows()))], button="Yes, change it", no="/change",
+        told=[sorted_table("Before and after", BESIDE, side_by_side(own.rows()))], no="/change",
+        button="Yes, change it",
     )  # fmt: skip
 
 
@@ -173,7 +171,7 @@ def make_change(served: Served) -> Any:
 
 def look_at_names(served: Served) -> Any:
     """Shows what would be named how, by the form or by a file."""
-    place = "" if form("kind") else uploaded(served)
+    place = uploaded(served) if any(own.filename for own in flask.request.files.getlist("files")) else ""
     rows, doubts = looks.look_at_names(served.reading, words_of_names(served, place))
     return show_page(
         "yes", "A look before it is named", lead="Nothing is named yet. This would be:", notes=doubts,
@@ -183,13 +181,9 @@ def look_at_names(served: Served) -> Any:
 
 
 def words_of_names(served: Served, place: str) -> list[str]:
-    """The words of ./day label that a form says: a name, or the file of an upload. Raises WordsFault if there is no
-    file."""
+    """The words of ./day label that a form says: a name, or the file of an upload."""
     if place:
-        paths = served.jobs.upload(place)
-        if not paths:
-            raise WordsFault("no file was chosen")
-        return [f"--file={paths[0]}"]
+        return [f"--file={served.jobs.upload(place)[0]}"]
     named = [form("kind"), form("number"), *([form("name")] if form("name") else [])]
     return [*(["--remove"] if len(named) == 2 else []), "--", *named]
 

@@ -13,16 +13,16 @@ from werkzeug.wrappers import Response
 from registry_tools.calendars.dates import date_of
 from registry_tools.calendars.due_days import NOT_DUE
 from registry_tools.desk.gate import Served
-from registry_tools.desk.shown import TYPED, asked, number_asked, row_of_taken, show_page
-from registry_tools.desk.waiting import with_due_day
-from registry_tools.desk.words import PAGES, item_in_words, local, words_of_row
+from registry_tools.desk.shown import TYPED, asked, number_asked, row_of_taken, show_page, with_due_day
+from registry_tools.desk.words import PAGES, local
 from registry_tools.errors import WordsFault
 from registry_tools.notes import BY_HAND
 from registry_tools.office import taken
 from registry_tools.office.changes import listing
 from registry_tools.office.labels import ACCOUNT, KINDS
 from registry_tools.pages import compliance as standing
-from registry_tools.pages import html, month
+from registry_tools.pages import month
+from registry_tools.pages.beside import item_in_words, words_of_row
 from registry_tools.pages.html import Markup, link
 from registry_tools.pages.rulebook import document_parts
 from registry_tools.pages.settled import WAITS, Settled, joined_words, outcome_in_words, record_in_words
@@ -266,9 +266,10 @@ def job(served: Served, number: str) -> Any:
         raise WordsFault("the desk knows nothing of this any more: Today and the journal say what was done")
     date = next((word.partition("=")[2] for word in there.words if word.startswith("--date=")), "")
     leads = BEHIND.get(there.command, ("/", "Today"))
-    if there.status == 0 and (there.command == "close" or there.made()):
-        is_made = there.command == "send"
-        leads = (f"/jobs/{number}/packages.zip", "Download the packages") if is_made else (f"/days/{date}", "To the day")
+    if there.status == 0 and there.command == "close":
+        leads = (f"/days/{date}", "To the day")
+    if there.status == 0 and there.made():
+        leads = (f"/jobs/{number}/packages.zip", "Download the packages")
     return show_page(
         "job", PAGES[there.command], job=there, status=there.status, leads=leads,
         has_changed=bool(there.seen) and there.seen != flask.g.state, refresh=2 if there.status is None else None,

@@ -9,9 +9,8 @@ import time
 from collections import OrderedDict
 from dataclasses import replace
 from pathlib import Path
-from typing import Any, Callable, Iterator, TypeVar
+from typing import Any, Callable, TypeVar
 
-from registry_tools.desk.waiting import DeskSettled, DeskStatement
 from registry_tools.errors import FileFault, WordsFault
 from registry_tools.office import close, composing, folder, handed, labels, lock, past, prepared, trial
 from registry_tools.office.composing import NextDay
@@ -23,7 +22,8 @@ from registry_tools.pages import indexed, month
 from registry_tools.pages.account import own_parts
 from registry_tools.pages.html import Frame, Markup, joined
 from registry_tools.pages.rulebook import Rulebook
-from registry_tools.pages.settled import ByHand, by_hand_before
+from registry_tools.pages.settled import ByHand, Settled, by_hand_before
+from registry_tools.pages.statement import Statement
 from registry_tools.questions import find, history
 from registry_tools.texts.day_text import DayText
 from registry_tools.texts.pending import read_pending, waiting_before
@@ -38,6 +38,14 @@ LONG = 1.0
 # month, and so many dates a list.
 MOST_KEPT, DAYS_OF_STATEMENT, MOST_ROWS, MOST_DATES = 12, 31, 100, 10
 NEXT = Path("the next day")
+
+
+class DeskSettled(Settled):
+    """A settled day whose accounts have addresses of the desk."""
+
+    def account_address(self, number: int, root: str = "") -> str:
+        """Where the page of an account is."""
+        return f"/accounts/{number}"
 
 
 class Reading:
@@ -159,9 +167,8 @@ class Reading:
         settled, office = self.settled(), self.asked().opened
         if settled is None or number not in settled.report.book:
             return None
-        days = indexed.days_of(office, number, DAYS_OF_STATEMENT)
-        own = DeskStatement(settled, number, days, self.waits_until)
-        return joined(*own_parts(settled, settled.report.book[number].account(), own), *own.waited_parts())
+        own = Statement(settled, number, indexed.days_of(office, number, DAYS_OF_STATEMENT), self.waits_until)
+        return joined(*own_parts(settled, settled.report.book[number].account(), own))
 
     def asked(self, **more: Any) -> argparse.Namespace:
         """The words of a question over all days."""
@@ -185,20 +192,6 @@ class Reading:
         said = self.asked(**more)
         key = ("month", said.begin, said.end, said.year, said.deadline)
         return self.once(key, self.state_of_names(), lambda: month.parts_of(said, MOST_ROWS))
-
-    def since(self, state: str) -> Iterator[str]:
-        """What was done behind a state that somebody has seen."""
-        line, parts, taken, _ = state.split(".")
-        office = self.office()
-        there, lines = office.handed_in(), [event.line for event in office.journal.events]
-        known = lines.index(line) + 1 if line in lines else 0
-        for event in office.journal.events[known:]:
-            yield f"{event.date} was {event.event} by {event.who}{f': {event.why}' if event.why else ''}"
-        is_same = office.journal.last_line == line
-        for part in there.parts[int(parts) if is_same else 0 :]:
-            yield f"{part.name} was handed in by {part.who}"
-        for own in there.taken[int(taken) if is_same else 0 :]:
-            yield f"place {own.place} was taken back by {own.who}: {own.why}"
 
     # The next day.
 

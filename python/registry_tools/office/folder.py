@@ -221,7 +221,8 @@ def locked(
         office.login = people.login_for(office.settings.people, whom)
         people.must_be_allowed(office.settings.people, office.login, command)
         if seen is not None and seen != state_of(office):
-            raise WordsFault("the folder has changed since it was looked at, and nothing was done: look once more")
+            since = "; ".join(done_since(office, seen)) or "another first text stands there"
+            raise WordsFault(f"somebody changed the folder since it was looked at, and nothing was done: {since}")
         yield office
 
 
@@ -233,6 +234,18 @@ def state_of(office: Office) -> str:
     there = handed_journal.from_text(path, content)
     content += "".join(handed.names_of_approvals(office.next_folder)).encode()
     return f"{office.journal.last_line}.{len(there.parts)}.{len(there.taken)}.{files.sum_of(content)[:16]}"
+
+
+def done_since(office: Office, state: str) -> Iterator[str]:
+    """What was done behind a state of the folder that somebody has seen, in words."""
+    line, parts, taken, _ = state.split(".")
+    there, lines = office.handed_in(), [event.line for event in office.journal.events]
+    for event in office.journal.events[lines.index(line) + 1 if line in lines else 0 :]:
+        yield f"{event.date} was {event.event} by {event.who}{f': {event.why}' if event.why else ''}"
+    is_same = office.journal.last_line == line
+    yield from (f"{part.name} was handed in by {part.who}" for part in there.parts[int(parts) if is_same else 0 :])
+    for own in there.taken[int(taken) if is_same else 0 :]:
+        yield f"place {own.place} was taken back by {own.who}: {own.why}"
 
 
 def tell_left(what: str, left: str) -> None:

@@ -18,6 +18,7 @@ NOTE = (
 )
 OTHERS = Table(["Day", "Record", "Entry", "By"])
 REFUSED = Table(["Day", "Record", "Instruction", "By", "Refused as", "What to do"])
+WAITED = Table(["Day", "Record", "Instruction", "Outcome"])
 WAITING = Table(["Record", "Instruction", "Proposed", "Due"])
 YEARS = Table(
     [
@@ -196,6 +197,13 @@ def refused_parts(statement: Statement) -> Iterator[Markup]:
         yield REFUSED.of("Instructions that were refused", statement.refused)
 
 
+def waited_parts(statement: Statement) -> Iterator[Markup]:
+    """What was not due on its day, if something was."""
+    if statement.waited:
+        yield heading("Not due on its day")
+        yield WAITED.of("Each is entered again by itself on its due day", statement.waited)
+
+
 def waiting_parts(statement: Statement) -> Iterator[Markup]:
     """What waits for its due day, if something does."""
     waiting = [*statement.waiting()]
@@ -220,6 +228,7 @@ def own_parts(settled: Settled, account: rules.Account, statement: Statement) ->
     yield facts_of(settled, account, statement)
     yield from entry_parts(statement)
     yield from refused_parts(statement)
+    yield from waited_parts(statement)
     yield from waiting_parts(statement)
     yield from standing_parts(settled, account, statement)
 

@@ -172,8 +172,9 @@ def totals_parts(days: list[DayOfMonth]) -> Iterator[Markup]:
     for kind in rules.KINDS:
         if len(balances) > 1 and any(held[kind] for _, held in balances):
             yield figure(f"{kind.capitalize()} allowances, held and surrendered together", chart(kind, balances))
-    counts = [(day.done, day.refused.total(), day.waiting, *(day.allowances[kind] for kind in rules.KINDS)) for day in days]
-    rows = [(day.date, *map(grouped, own)) for day, own in zip(days, counts)]
+    counts = ((day.done, day.refused.total(), day.waiting) for day in days)
+    held = ((day.allowances[kind] for kind in rules.KINDS) for day in days)
+    rows = [(day.date, *map(grouped, (*own, *both))) for day, own, both in zip(days, counts, held)]
     yield DAYS.of("Each day, and what there is after it", rows)
 
 

@@ -7,6 +7,7 @@ from typing import Any, Callable, Collection, Iterable, Iterator, Sequence, Type
 
 from registry_tools.calendars.due_days import NOT_DUE, due_day_after, head_after
 from registry_tools.office.labels import ACCOUNT, Labels
+from registry_tools.pages import beside
 from registry_tools.pages.html import Cells, Frame, Markup, Table, joined, link, markup, paragraph, tag, words_in_cell
 from registry_tools.pages.rulebook import Rulebook
 from registry_tools.second import rules
@@ -25,9 +26,8 @@ WAITS = "waits for its due day"
 # In how many rows a table is cut into pages.
 ROWS_OF_PAGE = 1_000
 NO_DUE_DAY = "none in the calendar"
-CHANGED = Table(["Account", "Change"])
+CHANGED = Table(beside.BESIDE)
 WHO = Table(["At", "Who", "Why", "Change"])
-OF_RULES = "the rules"
 NOT_KNOWN = (
     "What people changed before this day is told if the day before is named, by --before or --history of ./day page."
 )
@@ -204,7 +204,8 @@ def told_in(folder: Path) -> list[list[str]]:
     """Who changed what and why, by the folder of a day."""
     from registry_tools.office.changes import listing  # (most pages are made without a folder)
 
-    return [[str(cell) for cell in row[1:]] for row in listing.changes_of_day(folder, "")]
+    items = listing.items_of_day(folder)
+    return [[item.part.at, item.part.who, item.part.name, beside.item_in_words(item)] for item in items]
 
 
 def by_hand_parts(settled: Settled, by_hand: ByHand) -> list[Markup]:
@@ -213,10 +214,16 @@ def by_hand_parts(settled: Settled, by_hand: ByHand) -> list[Markup]:
         return [paragraph(NOT_KNOWN)]
     if not by_hand.rows:
         return [paragraph("Nothing was changed by hand before this day.")]
-    shown = by_hand.rows[:MOST_CHANGES]
-    rows = [(settled.named_account(change.account) if change.account else OF_RULES, change.words) for change in shown]
+    shown = [f"{row.account}: {row.words}" if row.account else row.words for row in by_hand.rows[:MOST_CHANGES]]
+    rows = [(linked(settled, of), *both) for of, *both in beside.side_by_side(shown)]
     first = f": the first {MOST_CHANGES} of {len(by_hand.rows)}" if len(by_hand.rows) > MOST_CHANGES else ""
-    found = [CHANGED.of(f"Rows that people changed before this day{first}", rows)]
+    found = [CHANGED.of(f"What people changed before this day{first}", rows)]
     if by_hand.told:
         found.append(WHO.of("Who changed it, and why", by_hand.told[:MOST_CHANGES]))
     return found
+
+
+def linked(settled: Settled, of: str) -> object:
+    """What a change is of: the rules, or an account by its number and its name."""
+    number = of.removeprefix("account ")
+    return joined_words("account", settled.named_account(int(number))) if number.isdigit() else of

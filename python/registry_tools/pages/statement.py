@@ -1,10 +1,12 @@
-"""What a statement tells of an account: what came in and went out on its days, what was refused, and what waits."""
+"""What a statement tells of an account: what came in and went out on its days, what was refused, and what waited and
+waits."""
 import datetime
-from typing import Iterator, Mapping, Protocol, Sequence
+from typing import Callable, Iterator, Mapping, Protocol, Sequence
 
+from registry_tools.calendars.due_days import NOT_DUE
 from registry_tools.pages.html import Cells, Markup, Table, heading, paragraph
 from registry_tools.pages.rulebook import ACTS
-from registry_tools.pages.settled import NO_DUE_DAY, Settled
+from registry_tools.pages.settled import NO_DUE_DAY, WAITS, Settled
 from registry_tools.second import rules
 from registry_tools.texts.day_text import DayText
 from registry_tools.texts.in_words import grouped
@@ -17,6 +19,7 @@ KINDS = rules.KINDS
 ENTRIES = Table(["Day", "Record", "Entry", "By", "In", "Out", "Balance"], ("In", "Out", "Balance"))
 # What an account learns of a refused instruction that is not its own.
 OF_ANOTHER = "An instruction of another account"
+Until = Callable[[datetime.date, int], str]
 # When, and what an account held of each kind then.
 Balances = list[tuple[object, dict[str, int]]]
 
@@ -96,16 +99,20 @@ class Own:
 
 
 class Statement:
-    """What happened at an account over one or several days: the entries of each kind of allowance, other entries, and
-    refusals."""
+    """What happened at an account over one or several days: the entries of each kind of allowance, other entries,
+    refusals, and what was not due on its day."""
 
-    def __init__(self, settled: Settled, number: int, days: Sequence[DayTold]) -> None:
-        self.settled, self.number, self.days = settled, number, days
+    def __init__(
+        self, settled: Settled, number: int, days: Sequence[DayTold], until: Until = lambda date, record: WAITS
+    ) -> None:
+        """`until` tells of a day and a record that was not due on it until when it waits."""
+        self.settled, self.number, self.days, self.until = settled, number, days, until
         # Its representatives on the day that is followed: By names those, as the own statement of that day does.
         self.users: set[str] = set()
         self.entries: dict[str, list[Cells]] = {kind: [] for kind in KINDS}
         self.others: list[Cells] = []
         self.refused: list[Cells] = []
+        self.waited: list[Cells] = []
         self.balances: Balances = []
         # (an account that was opened on a later day than the first one held nothing before)
         self.held = days[0].opening(number) or dict.fromkeys(KINDS, 0)
@@ -137,6 +144,10 @@ class Statement:
     def take(self, date: datetime.date, own_row: OwnRow) -> None:
         """Enters a log row."""
         logged = own_row.logged
+        if logged.name == NOT_DUE:
+            words = Own(logged, self.number, self.users).words_with_amount if own_row.is_whole else OF_ANOTHER
+            self.waited.append((date, logged.record, words, self.until(date, logged.record)))
+            return
         if not own_row.is_whole:
             self.refused.append(
                 (date, logged.record, OF_ANOTHER, "", "refused", "Nothing: this account did not ask for it.")
