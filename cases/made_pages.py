@@ -19,11 +19,11 @@ from registry_tools.main import main as day_main
 from registry_tools.pages import index
 from registry_tools.pages.plan import MOST_BOXES
 from registry_tools.pages.rulebook import ACTS
-from registry_tools.pages.summary import MOST_DONE, MOST_REFUSED
+from registry_tools.pages.summary import MOST_SHOWN
 from registry_tools.questions import compliance
 from registry_tools.second import rules
 from registry_tools.texts.outdated import Entries
-from registry_tools.texts.pairs import read_pair
+from registry_tools.texts.follows import read_pair
 from registry_tools.texts.report import LogRow
 from reread import Page, Table
 from registry_tools.texts.in_words import grouped
@@ -157,7 +157,7 @@ def refusals_of(made: Made) -> None:
         records = refused.get(code)
         if records is None:
             continue
-        assert [row[0] for row in page.table(f"Refused as {check.name}").rows] == records[:MOST_REFUSED], check.name
+        assert [row[0] for row in page.table(f"Refused as {check.name}").rows] == records[:MOST_SHOWN], check.name
         assert (
             f"{code} {check.name}: {grouped(len(records))} instruction{'s' * (len(records) > 1)}" in page.headings
         )
@@ -217,7 +217,7 @@ def done_of(made: Made) -> None:
     captions = [
         table.caption for table in made.page().tables if table.caption.startswith("Instructions that were done")
     ]
-    if len(expected) <= MOST_DONE:
+    if len(expected) <= MOST_SHOWN:
         told = [record for (record,) in made.page().table(captions[0]).columns("Record")] if captions else []
         assert told == expected
         return
@@ -228,7 +228,7 @@ def done_of(made: Made) -> None:
         for row in made.page(file).table("Instructions that were done").columns("Record")
     ]
     assert [record for (record,) in every] == expected and "done.html" in made.page().hrefs
-    assert captions == [f"Instructions that were done: the first {MOST_DONE} of {grouped(len(expected))}"]
+    assert captions == [f"Instructions that were done: the first {MOST_SHOWN} of {grouped(len(expected))}"]
 
 
 RANGE = re.compile('<a href="(accounts[^"#]*)(?:#account-([0-9]+))?">(?:([0-9]+) to )?([0-9]+)</a>')

@@ -9,7 +9,6 @@ from typing import Iterable, Iterator, Mapping, Sequence
 from registry_tools.desk.reading import Reading
 from registry_tools.desk.words import LAGS, label
 from registry_tools.errors import WordsFault
-from registry_tools.office.handed import text_of_rows
 from registry_tools.pages.beside import called
 from registry_tools.second import faults, rules
 from registry_tools.sheets import columns as sheets
@@ -19,6 +18,7 @@ from registry_tools.tables import RIGHTS, YES_NO
 from registry_tools.texts.accounts import Block
 from registry_tools.texts.day_text import DayText
 from registry_tools.texts.in_words import grouped
+from registry_tools.texts.rows import text_of_rows
 
 # What may be chosen for a field of an instruction, and which fields are accounts.
 CHOICES = {"kind": rules.KINDS, "status": faults.STATUSES}

@@ -9,7 +9,7 @@ from registry_tools.desk import forms, gate, looks
 from registry_tools.desk.gate import Served
 from registry_tools.desk.shown import address_of, outcome, show_page, sorted_table
 from registry_tools.errors import WordsFault
-from registry_tools.office.hand_in import words_of_count
+from registry_tools.office import handed
 from registry_tools.office.people import MAY_WAIT
 from registry_tools.office.trial import whys
 from registry_tools.office.words import one_line
@@ -107,7 +107,7 @@ def look(served: Served) -> Any:
     return show_page(
         "look", "A look before it is handed in", own=own, place=place, dates=dates, whys=whys(own.looked),
         again=[("again", f"{file}:{line}") for file, line in again], back=address_of("/hand-in", {**typed}),
-        counts=[(part.name, words_of_count(part)) for part in own.added.parts] if own.added else [],
+        counts=[(i.name, f"{handed.NAMES[i.kind]} {i.count}") for i in own.added.parts] if own.added else [],
         names=[path.name for path in paths],
         rows=[(tried.place, tried.words, tried.said(), tried) for tried in own.looked],
         shown_row=lambda row: (row[0], row[1], outcome(row[3])),

@@ -26,7 +26,7 @@ from dataclasses import dataclass, field
 from pathlib import Path
 from typing import Iterator, NamedTuple
 
-from registry_tools.errors import FileFault, shown
+from registry_tools.errors import FileFault, raise_first, shown
 from registry_tools.office.files import bytes_in, sum_of
 
 FILED, UNDONE, RELEASED, LABELLED = EVENTS = ("filed", "undone", "released", "labelled")
@@ -169,16 +169,10 @@ class Journal:
         return f"{self.text}{heading}{''.join(f'{event.row()}{LINE_END}' for event in events)}"
 
 
-def empty_text() -> str:
-    """The text of a journal without events."""
-    return HEADING + "\n"
-
-
 def read(path: Path) -> Journal:
     """The journal of a folder. Ends the command at the first line that is not what it must be."""
     journal = Journal(path, bytes_in(path).decode("utf-8", "surrogateescape"))
-    for fault in faults_of(journal):
-        raise fault
+    raise_first(faults_of(journal))
     return journal
 
 
@@ -200,9 +194,8 @@ def faults_of(journal: Journal) -> Iterator[FileFault]:
             yield FileFault(path, number, "line", shown(line), event)
             continue
         if event.before != journal.last_line:
-            yield FileFault(
-                path, number, "before", shown(event.before), f"{journal.last_line}, the sum of line {number - 1}"
-            )
+            expected = f"{journal.last_line}, the sum of line {number - 1}"
+            yield FileFault(path, number, "before", shown(event.before), expected)
         wrong = does_not_follow(journal, event)
         if wrong:
             yield FileFault(path, number, "event", f"{event.event} {event.date}", wrong)

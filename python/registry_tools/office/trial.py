@@ -79,7 +79,7 @@ def look(next_day: NextDay, day: DayText, names: Labels = Labels()) -> list[Look
     """What would come of each instruction, in words with the names of accounts."""
     places = [*(None for _ in next_day.entered), *(item.place for item in next_day.new)]
     looked = []
-    for place, instruction, logged in zip(places, day.instructions, composing.asked_rules(day)):
+    for place, instruction, logged in zip(places, day.instructions, rules.settle(day.day())):
         own, said = instruction.row, in_words.instruction_in_words(instruction, names.account)
         outcome = outcome_by_rules(logged, instruction)
         looked.append(Looked(place, own, said, outcome, str(logged.due or ""), logged.line))
@@ -149,7 +149,7 @@ def mark_and_keep(path: Path, looked: list[Looked]) -> None:
 
 def run(said: argparse.Namespace) -> int:
     """Runs the command, and answers the exit status."""
-    office = folder.opened(said.office, folder.to_errors)
+    office = folder.opened(said.office)
     handed_in = office.handed_in()
     date = composing.settlement_date(said.date, office, handed_in)
     with composing.telling_the_way_out():

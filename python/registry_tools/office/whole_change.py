@@ -4,7 +4,7 @@ import os
 from pathlib import Path
 from typing import Iterator
 
-from registry_tools.errors import FileFault
+from registry_tools.errors import FileFault, of_file
 from registry_tools.office import files, journal, prepared
 from registry_tools.office.folder import Office, tell_left
 from registry_tools.office.journal import Event
@@ -63,7 +63,7 @@ def must_be_movable(office: Office, events: tuple[Event, ...]) -> None:
             raise FileFault(path, 0, "", "something that the journal does not name", "no such file: take it away first")
     for path in (office.path, office.path / DAYS, office.next_folder, *days):
         if path.exists() and not os.access(path, os.W_OK | os.X_OK):
-            raise FileFault(path, 0, "", "it cannot be written: Permission denied", "")
+            raise of_file(path, "it cannot be written: Permission denied")
 
 
 @contextlib.contextmanager
@@ -72,4 +72,4 @@ def telling(path: Path) -> Iterator[None]:
     try:
         yield
     except OSError as error:
-        raise FileFault(error.filename or path, 0, "", f"it cannot be read or written: {error.strerror}", "") from None
+        raise of_file(error.filename or path, f"it cannot be read or written: {error.strerror}") from None

@@ -69,9 +69,7 @@ def meaning_of(check: Check) -> str:
 def letter_words(text: str) -> str:
     """A sentence of the rules without what only the office does."""
     words_only = NAMED.sub(lambda found: IN_A_LETTER[found[1]], OF_OFFICE.sub("", text)).rstrip(".") + "."
-    return re.sub(
-        r"(^|[.:] )([a-z])", lambda found: found[1] + found[2].upper() if found[1] != ": " else found[0], words_only
-    )
+    return re.sub(r"(^|[.] )([a-z])", lambda found: found[1] + found[2].upper(), words_only)
 
 
 class LetterStatement(Statement):

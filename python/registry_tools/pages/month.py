@@ -74,10 +74,8 @@ def compliance_parts(
     lacking = sorted(unsettled, key=lambda row: (-(row.missing or 0), row.account.number))
     if lacking:
         until = until_in_words(last.date, deadline or due.surrender_of(year))
-        own = [
-            (names.account(row.account.number), names.holder(row.account.holder), bar(row), missing_of(row), until)
-            for row in lacking
-        ]
+        whose = ((names.account(row.account.number), names.holder(row.account.holder), row) for row in lacking)
+        own = [(account, holder, bar(row), missing_of(row), until) for account, holder, row in whose]
         yield from first_rows_of(MISSED, f"Who is missing how much for {year}", own, most)
 
 
@@ -172,10 +170,11 @@ def totals_parts(days: list[DayOfMonth]) -> Iterator[Markup]:
     for kind in rules.KINDS:
         if len(balances) > 1 and any(held[kind] for _, held in balances):
             yield figure(f"{kind.capitalize()} allowances, held and surrendered together", chart(kind, balances))
-    counts = ((day.done, day.refused.total(), day.waiting) for day in days)
-    held = ((day.allowances[kind] for kind in rules.KINDS) for day in days)
-    rows = [(day.date, *map(grouped, (*own, *both))) for day, own, both in zip(days, counts, held)]
-    yield DAYS.of("Each day, and what there is after it", rows)
+    numbers = (
+        (day, (day.done, day.refused.total(), day.waiting, *(day.allowances[kind] for kind in rules.KINDS)))
+        for day in days
+    )
+    yield DAYS.of("Each day, and what there is after it", [(day.date, *map(grouped, own)) for day, own in numbers])
 
 
 def refusal_parts(days: list[DayOfMonth]) -> Iterator[Markup]:
@@ -185,10 +184,8 @@ def refusal_parts(days: list[DayOfMonth]) -> Iterator[Markup]:
     if not count:
         yield paragraph(NOTHING)
         return
-    yield REFUSALS.of(
-        "By reason",
-        [(name, grouped(often), letter.meaning_of(checks()[name])) for name, often in count.most_common()],
-    )
+    rows = [(name, grouped(often), letter.meaning_of(checks()[name])) for name, often in count.most_common()]
+    yield REFUSALS.of("By reason", rows)
 
 
 def hand_rows(days: list[DayOfMonth], names: Labels) -> Iterator[tuple[datetime.date, str, str]]:
@@ -243,7 +240,7 @@ def parts_of(said: argparse.Namespace, most: int | None = None) -> tuple[str, in
     """What stands on the page: its title, how many days it tells of, and its parts, with at most so many rows in a
     table."""
     days, last = days_of(said, *past.span_of(said))
-    deadline = past.date_or("--deadline", said.deadline, datetime.date.max) if said.deadline is not None else None
+    deadline = past.date_or("--deadline", said.deadline, None)
     due = DueDates() if said.pairs else past.office_of(said).settings.due
     names = naming.known_to(said)
     compliance = compliance_parts(last, said.year, deadline, due, names, most)

@@ -62,10 +62,7 @@ def arrows_of(tasks: dict[int, Task], records: Collection[int]) -> Iterator[grid
 def both(title: str, boxes: dict[int, grid.Box], arrows: list[grid.Arrow], names: grid.Names = grid.Names()) -> Markup:
     """A picture twice: for wide windows and paper, and for narrow windows. They differ in how many columns stand side
     by side."""
-    return joined(
-        grid.picture(title, boxes, arrows, WIDE, "wide", names),
-        grid.picture(title, boxes, arrows, NARROW, "narrow", names),
-    )
+    return joined(*(grid.picture(title, boxes, arrows, *form, names) for form in ((WIDE, "wide"), (NARROW, "narrow"))))
 
 
 def figure(caption: str, drawing: Markup) -> Markup:
@@ -81,12 +78,8 @@ def places_in_levels(tasks: dict[int, Task]) -> dict[int, tuple[int, int]]:
         levels.setdefault(task.level, []).append(record)
     for level in sorted(levels):
         own = levels[level]
-        middle = {
-            record: sum(row_of[tail] for tail, _ in tasks[record].tails) / len(tasks[record].tails)
-            if tasks[record].tails
-            else own.index(record)
-            for record in own
-        }
+        tails = {record: [row_of[tail] for tail, _ in tasks[record].tails] for record in own}
+        middle = {record: sum(rows) / len(rows) if rows else own.index(record) for record, rows in tails.items()}
         row_of.update({record: row for row, record in enumerate(sorted(own, key=lambda own: (middle[own], own)))})
     return {record: (tasks[record].level - 1, row) for record, row in row_of.items()}
 
@@ -102,11 +95,8 @@ def waits_in_words(task: Task) -> str:
 def plan_table(tasks: Iterable[Task], caption: str) -> Markup:
     """What the picture shows, a row for each instruction, by levels."""
     rows = (
-        (
-            task.logged.record, task.level, record_in_words(task.logged), outcome_in_words(task.logged),
-            waits_in_words(task),
-        )
-        for task in sorted(tasks, key=lambda task: (task.level, task.logged.record))
+        (own.logged.record, own.level, record_in_words(own.logged), outcome_in_words(own.logged), waits_in_words(own))
+        for own in sorted(tasks, key=lambda task: (task.level, task.logged.record))
     )
     columns = ["Record", "Level", "Instruction", "Outcome", "Waits for (account)"]
     return table(caption, columns, rows, right=("Level",))
@@ -147,19 +137,11 @@ def chain_parts(tasks: dict[int, Task]) -> list[Markup]:
     arrows = [*arrows_of(tasks, drawn)]
     said = f"The longest chain: {length}, of which each waits for the one before it"
     if is_cut:
-        arrows.append(
-            grid.Arrow(
-                drawn[CHAIN_ENDS - 1],
-                drawn[CHAIN_ENDS],
-                f"{grouped(len(chain) - len(drawn))} more",
-                "the middle of the chain",
-            )
-        )
+        left_out = f"{grouped(len(chain) - len(drawn))} more"
+        arrows.append(grid.Arrow(drawn[CHAIN_ENDS - 1], drawn[CHAIN_ENDS], left_out, "the middle of the chain"))
         said += f". Its first {CHAIN_ENDS} and its last {CHAIN_ENDS} are shown"
-    return [
-        figure(said, both(said, boxes, arrows)),
-        plan_table([tasks[record] for record in drawn], "The chain in words"),
-    ]
+    table_of_chain = plan_table([tasks[record] for record in drawn], "The chain in words")
+    return [figure(said, both(said, boxes, arrows)), table_of_chain]
 
 
 def bars(title: str, rows: Sequence[tuple[object, int]]) -> Markup:
@@ -185,15 +167,11 @@ def busiest_parts(settled: Settled) -> list[Markup]:
     if not busiest:
         return []
     said = "The busiest accounts, by how many instructions touch them"
-    rows = (
-        (settled.account_link(account), grouped(all_of), *(grouped(count[account, kind]) for kind in OUTCOMES))
-        for account, all_of in busiest
-    )
+    counts = ((account, (of, *(count[account, kind] for kind in OUTCOMES))) for account, of in busiest)
+    rows = [(settled.account_link(account), *map(grouped, own)) for account, own in counts]
     columns = ["Account", "Instructions", "Done", "Refused", "Waiting"]
-    return [
-        figure(said, bars(said, busiest)),
-        table("The busiest accounts in numbers", columns, rows, right=columns[1:]),
-    ]
+    numbers = table("The busiest accounts in numbers", columns, rows, right=columns[1:])
+    return [figure(said, bars(said, busiest)), numbers]
 
 
 def plan_parts(settled: Settled) -> list[Markup]:
@@ -204,8 +182,7 @@ def plan_parts(settled: Settled) -> list[Markup]:
     levels = Counter(task.level for task in tasks.values())
     lead = paragraph(
         "Instructions that touch the same account are settled one after another. The others can be settled at the same "
-        "time: those of "
-        f"one level. This day has {count_of(len(levels), 'level', 'levels')}; the largest has "
+        f"time: those of one level. This day has {count_of(len(levels), 'level', 'levels')}; the largest has "
         f"{count_of(max(levels.values()), 'instruction', 'instructions')}."
     )
     if len(tasks) <= MOST_BOXES:

@@ -67,15 +67,9 @@ class Settled:
     """A day with its report, the words of the rules, and the frame of the pages."""
 
     def __init__(
-        self,
-        day: DayText,
-        report: Report,
-        rulebook: Rulebook,
-        frame: Frame,
-        shown: Collection[int],
-        earlier: list[Waiting] | None,
-        names: Labels = Labels(),
-    ) -> None:
+        self, day: DayText, report: Report, rulebook: Rulebook, frame: Frame, shown: Collection[int],
+        earlier: list[Waiting] | None, names: Labels = Labels(),
+    ) -> None:  # fmt: skip
         self.day, self.report, self.rulebook, self.frame = day, report, rulebook, frame
         # The accounts that have a page, and the names of accounts, holders and users.
         self.shown, self.names = shown, names
@@ -90,9 +84,7 @@ class Settled:
         first."""
         head = head_after(self.day, self.report)
         refused = (Waiting(logged.record, logged.instruction) for logged in self.log if logged.name == NOT_DUE)
-        waiting = [
-            dataclasses.replace(waits, due=due_day_after(head, waits.instruction)) for waits in (*earlier, *refused)
-        ]
+        waiting = (dataclasses.replace(own, due=due_day_after(head, own.instruction)) for own in (*earlier, *refused))
         return sorted(waiting, key=lambda waits: (waits.due or datetime.date.max, waits.record or 0))
 
     def account_link(self, number: int, root: str = "") -> Markup | str:

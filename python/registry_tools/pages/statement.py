@@ -49,9 +49,7 @@ class DayOfAccounts:
     def opening(self, number: int) -> dict[str, int] | None:
         """What an account held before the day; None if there was no such account."""
         block = self.day.book.get(number)
-        if block is None:
-            return None
-        return dict(zip(KINDS, map(int, block.held_fields)))
+        return dict(zip(KINDS, map(int, block.held_fields))) if block else None
 
     def users(self, number: int) -> set[str]:
         """The representatives of an account on the day, as they are spelled."""
@@ -80,8 +78,7 @@ class Own:
             return f"{name} to {rest[1]}" if rest[0] == str(self.number) else f"{name} from {rest[0]}"
         more = {
             "reverse": " of record {1}", "trust": ": {1}", "untrust": ": {1}", "status": ": {1}",
-            "emissions": " of {1}: {2} tonnes",
-            "assess": " of {1}",
+            "emissions": " of {1}: {2} tonnes", "assess": " of {1}",
         }.get(self.act, "")  # fmt: skip
         tonnes = [grouped(rest[2])] if self.act == "emissions" else rest[2:]
         return name + more.format(*rest[:2], *tonnes)
@@ -149,9 +146,8 @@ class Statement:
             self.waited.append((date, logged.record, words, self.until(date, logged.record)))
             return
         if not own_row.is_whole:
-            self.refused.append(
-                (date, logged.record, OF_ANOTHER, "", "refused", "Nothing: this account did not ask for it.")
-            )
+            nothing = ("", "refused", "Nothing: this account did not ask for it.")
+            self.refused.append((date, logged.record, OF_ANOTHER, *nothing))
             return
         own = Own(logged, self.number, self.users)
         if not logged.is_done:

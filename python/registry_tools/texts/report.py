@@ -130,9 +130,8 @@ class LogFields:
             count = len(faults.ACTS[act])
         own = faults.fields_of_act(act, count)
         if own is None:
-            raise self.reader.source.fault(
-                self.index, "log row", f"{count} fields behind distribute", faults.forms_of_act(act)
-            )
+            found = f"{count} fields behind distribute"
+            raise self.reader.source.fault(self.index, "log row", found, faults.forms_of_act(act))
         for each in own:
             self.next(each)
         return self.fields[begun : self.place]
@@ -174,9 +173,8 @@ def written_row(source: Rows, index: int, tag: str, fields: list[faults.Field]) 
     if len(words) != len(fields) + 1:
         expected = f"{len(fields) + 1} fields: {faults.form_of(tag, fields)}"
         raise source.fault(index, f"{tag} row", f"{len(words)} fields", expected)
-    return [
-        LogFields(Reader(source, faults.Reading()), index).checked(own, place) for place, own in enumerate(fields, 1)
-    ]
+    row = LogFields(Reader(source, faults.Reading()), index)
+    return [row.checked(own, place) for place, own in enumerate(fields, 1)]
 
 
 def read_report(path: str | Path, day: DayText | None = None) -> Report:
