@@ -15,7 +15,8 @@ Measures, for 16,384 transfers that are wide (no two share an account), chained 
 before it) and mixed (random pairs of 2,000 accounts), the milliseconds of processor time and of the clock, least of
 all repeats, without those of reading the text: of settling plainly, in batch order on values of their own, level by
 level, by workers that steal and by workers that own regions of the book, the last three for each number of workers.
-All of them in turn, in one run.
+`regions` settles a book in one list, which is cut before, and `list-regions` one in the lists in which the program's
+threads leave it. All of them in turn, in one run.
 """
 
 import argparse
@@ -76,7 +77,13 @@ def shapes(chance: Random) -> dict[str, bytes]:
 
 def ways() -> list[tuple[object, ...]]:
     """All ways of settling, as the program's words."""
-    return [("plain",), ("place",), ("order",), *itertools.product(("levels", "stealing", "regions"), WORKERS)]
+    several = ("levels", "stealing", "regions", "list-regions")
+    return [("plain",), ("place",), ("order",), *itertools.product(several, WORKERS)]
+
+
+def reading_of(words: tuple[object, ...]) -> tuple[object, ...]:
+    """The words that read the text as these do, and do nothing else."""
+    return ("lists", *words[1:]) if words[0] == "list-regions" else ("read",)
 
 
 def measure(repeat: int, chance: Random) -> None:
@@ -84,14 +91,15 @@ def measure(repeat: int, chance: Random) -> None:
     for name, data in shapes(chance).items():
         least: dict[tuple[object, ...], tuple[float, float]] = {}
         for _ in range(repeat):
-            for words in [("read",), *ways()]:
+            for words in dict.fromkeys([*map(reading_of, ways()), *ways()]):
                 _, used, passed = program(data, *words)
                 old = least.get(words, (used, passed))
                 least[words] = (min(old[0], used), min(old[1], passed))
-        read = least.pop(("read",))
+        read = least[("read",)]
         print(f"\n{name}: reading takes {read[0]:.0f} ms of processor time, {read[1]:.0f} ms of the clock")
         print("| way | processor time | clock |\n|---|---|---|")
-        for words, (used, passed) in least.items():
+        for words in ways():
+            (used, passed), read = least[words], least[reading_of(words)]
             print(f"| {' '.join(map(str, words))} | {used - read[0]:.1f} ms | {passed - read[1]:.1f} ms |")
 
 

@@ -1,5 +1,6 @@
 //! A gate that delays workers and notes who entered when.
 
+use crate::stop::Stop;
 use crate::ways::Lane;
 use crossbeam_utils::Backoff;
 use reg_regions::PlaceGate;
@@ -7,6 +8,7 @@ use reg_tasks::{Naming, Task};
 use reg_work::Gate;
 use std::alloc::{AllocError, Global};
 use std::sync::atomic::{AtomicU32, Ordering};
+use std::time::{Clock, Instant};
 
 // How long a worker is held up before each run, in turns of a pause.
 const TURNS: u32 = 30;
@@ -38,6 +40,14 @@ impl Delays {
         let drawn = (self.seed ^ place).wrapping_mul(2_654_435_761) >> 16;
         drawn % MOST_DRAWN
     }
+
+    // Waits as long.
+    fn pause(self, worker: u32, place: u32) {
+        let backoff = Backoff::new();
+        for _ in 0..self.turns(worker, place) {
+            backoff.snooze();
+        }
+    }
 }
 
 /// Notes which worker entered with which place, in the order in which they entered, and delays them.
@@ -47,6 +57,72 @@ pub(crate) struct Noting {
     next: AtomicU32,
     places: Vec<AtomicU32>,
     workers: Vec<AtomicU32>,
+}
+
+/// Notes when workers entered and left with each place, in microseconds, and delays them.
+#[derive(Drop)]
+pub(crate) struct Timing<'a, R> {
+    clock: &'a R,
+    start: Instant,
+    delays: Delays,
+    entered: Vec<AtomicU32>,
+    left: Vec<AtomicU32>,
+}
+
+impl<'a, R: Clock> Timing<'a, R> {
+    /// A gate for a day of so many instructions, whose time begins now.
+    pub(crate) fn of(
+        clock: &'a R,
+        alloc: Global,
+        count: u32,
+        delays: Delays,
+    ) -> Result<Timing<'a, R>, Stop> {
+        let Ok(start) = Instant::now(clock) else {
+            return Err(Stop::Short);
+        };
+        Ok(Timing {
+            clock,
+            start,
+            delays,
+            entered: zeros(alloc, count)?,
+            left: zeros(alloc, count)?,
+        })
+    }
+
+    fn note(&self, times: &[AtomicU32], place: u32) {
+        let Ok(passed) = self.start.elapsed(self.clock) else {
+            return;
+        };
+        let micros = u32::try_from(passed.as_micros()).unwrap_or(u32::MAX);
+        if let Some(time) = times.get((place as usize).saturating_sub(1)) {
+            time.store(micros, Ordering::SeqCst);
+        }
+    }
+
+    /// How many microseconds went by from when a worker entered with one place until it left with another one.
+    pub(crate) fn between(&self, first: u32, last: u32) -> u32 {
+        let entered = time_at(&self.entered, first);
+        time_at(&self.left, last).saturating_sub(entered)
+    }
+}
+
+// What was noted of a place, or 0.
+fn time_at(times: &[AtomicU32], place: u32) -> u32 {
+    match times.get((place as usize).saturating_sub(1)) {
+        Some(time) => time.load(Ordering::SeqCst),
+        None => 0,
+    }
+}
+
+impl<'a, R: Clock + Sync> PlaceGate for Timing<'a, R> {
+    fn enter(&self, worker: u32, place: u32) {
+        self.note(&self.entered, place);
+        self.delays.pause(worker, place);
+    }
+
+    fn leave(&self, _worker: u32, place: u32) {
+        self.note(&self.left, place);
+    }
 }
 
 // So many counters at 0.
@@ -84,10 +160,7 @@ impl Noting {
     // Notes a worker that enters with a place, and delays it.
     fn pass(&self, worker: u32, place: u32) {
         self.note(worker, place);
-        let backoff = Backoff::new();
-        for _ in 0..self.delays.turns(worker, place) {
-            backoff.snooze();
-        }
+        self.delays.pause(worker, place);
     }
 
     /// The places in the order in which workers entered with them.

@@ -4,8 +4,10 @@
 //! The first word says what is done: `read` reads the text alone, `plain` settles one instruction after another,
 //! `place` the same on the book's own accounts, `plan` makes the plan, `order` runs the instructions in batch order on
 //! values of their own, `schedule` by a schedule of four workers, `levels` settles level by level, `stealing` by
-//! workers that steal, `regions` by workers that own regions of the book. `lanes` writes which places each worker that
-//! owns regions ran, in order.
+//! workers that steal, `regions` by workers that own regions of the book. `lists` reads the text
+//! into as many lists as the program does, and `list-regions` settles these by regions, as the program does. `lanes`
+//! writes the regions that each worker owned, in order: whether it stole it, the places that it ran, and how many
+//! microseconds it took.
 //!
 //! `orders` runs the instructions in each order that a further word lists, such as `2,1,3`, and writes a line for each:
 //! `same` if the settled day is that of `plain`, or the fault. A word such as `4:17` stands for a schedule of 4 workers
@@ -33,11 +35,13 @@ mod stop;
 mod tries;
 mod ways;
 
-use crate::gates::{Delays, NOBODY, Noting};
+use crate::gates::{Delays, NOBODY, Timing};
 use crate::orders::{make_plan, run_batch, run_four, try_orders};
 use crate::stop::{Stop, number_at, tell};
 use crate::tries::{try_each, try_stealing};
-use crate::ways::{Lane, by_regions, by_stealing, close_in_place, in_one_list, read};
+use crate::ways::{
+    Lane, by_regions, by_stealing, close_in_parts, close_in_place, in_one_list, read, read_in_parts,
+};
 use reg_book::settle_plain;
 use reg_regions::FreePlaces;
 use reg_text::DayInput;
@@ -48,22 +52,56 @@ use std::io::{Read, Write};
 use std::process::ExitCode;
 use std::sync::Wait;
 use std::thread::Threads;
+use std::time::Clock;
 
-// Writes the places that a worker ran.
-fn tell_lane<W: Write>(writer: &mut W, shift: &Lane) -> Result<(), Stop> {
+// Writes the places of a region that a worker ran, whose it was before, and how many microseconds it took.
+fn tell_region<R: Clock, W: Write>(
+    writer: &mut W,
+    gate: &Timing<R>,
+    stolen: bool,
+    places: &[u32],
+) -> Result<(), Stop> {
+    let (Some(first), Some(last)) = (places.first(), places.last()) else {
+        return Ok(());
+    };
+    let word = if stolen { "stolen" } else { "own" };
+    if write!(writer, " {word}").is_err() {
+        return Err(Stop::Output);
+    }
+    for place in places {
+        if write!(writer, " {place}").is_err() {
+            return Err(Stop::Output);
+        }
+    }
+    if write!(writer, " took {}", gate.between(*first, *last)).is_err() {
+        return Err(Stop::Output);
+    }
+    Ok(())
+}
+
+// Writes the regions that a worker ran.
+fn tell_lane<R: Clock, W: Write>(
+    writer: &mut W,
+    gate: &Timing<R>,
+    shift: &Lane,
+) -> Result<(), Stop> {
     if write!(writer, "{}:", shift.worker).is_err() {
         return Err(Stop::Output);
     }
-    for place in shift.places.iter() {
-        if write!(writer, " {place}").is_err() {
-            return Err(Stop::Output);
+    for (index, region) in shift.regions.iter().enumerate() {
+        let end = match shift.regions.get(index.saturating_add(1)) {
+            Some(next) => next.before,
+            None => shift.places.len(),
+        };
+        if let Some(places) = shift.places.get(region.before..end) {
+            tell_region(writer, gate, region.stolen, places)?;
         }
     }
     tell(writer, &"")
 }
 
 // Writes which places each worker ran, with delays drawn from a seed, or none if it is 0.
-fn tell_lanes<R: Threads + Sync, W: Write>(
+fn tell_lanes<R: Threads + Clock + Sync, W: Write>(
     rt: &R,
     alloc: Global,
     day: DayInput,
@@ -74,11 +112,11 @@ fn tell_lanes<R: Threads + Sync, W: Write>(
         held_up: NOBODY,
         seed: number_at(words, 1)?,
     };
-    let gate = Noting::of(alloc, day.batch.len(), delays)?;
+    let gate = Timing::of(rt, alloc, day.batch.len(), delays)?;
     let parts = in_one_list(alloc, day)?;
     let (_, shifts) = by_regions(rt, alloc, parts, number_at(words, 0)?, &gate)?;
     for shift in shifts.iter() {
-        tell_lane(writer, shift)?;
+        tell_lane(writer, &gate, shift)?;
     }
     Ok(())
 }
@@ -124,7 +162,7 @@ fn settle_stealing<R: Threads + Wait + Sync>(
 }
 
 // Does what the words say.
-fn carry_out<R: Threads + Wait + Sync, W: Write>(
+fn carry_out<R: Threads + Wait + Clock + Sync, W: Write>(
     rt: &R,
     alloc: Global,
     text: &[u8],
@@ -134,11 +172,31 @@ fn carry_out<R: Threads + Wait + Sync, W: Write>(
     let Some((first, rest)) = words.split_first() else {
         return Err(Stop::Input);
     };
-    if first.as_str() == "each" {
-        return try_each(rt, alloc, text, rest, writer);
-    }
-    let day = read(alloc, text)?;
     match first.as_str() {
+        "each" => try_each(rt, alloc, text, rest, writer),
+        "lists" => {
+            read_in_parts(rt, alloc, text, number_at(rest, 0)?)?;
+            Ok(())
+        }
+        "list-regions" => {
+            close_in_parts(rt, alloc, text, number_at(rest, 0)?)?;
+            Ok(())
+        }
+        _ => carry_out_day(rt, alloc, text, first.as_str(), rest, writer),
+    }
+}
+
+// Does what the words say with the day that a text says.
+fn carry_out_day<R: Threads + Wait + Clock + Sync, W: Write>(
+    rt: &R,
+    alloc: Global,
+    text: &[u8],
+    first: &str,
+    rest: &[String],
+    writer: &mut W,
+) -> Result<(), Stop> {
+    let day = read(alloc, text)?;
+    match first {
         "read" => Ok(()),
         "place" => {
             close_in_place(alloc, day)?;
@@ -147,7 +205,7 @@ fn carry_out<R: Threads + Wait + Sync, W: Write>(
         "regions" => settle_in_regions(rt, alloc, day, number_at(rest, 0)?),
         "lanes" => tell_lanes(rt, alloc, day, rest, writer),
         "try" => try_stealing(rt, alloc, text, &day, rest, writer),
-        _ => carry_out_on(rt, alloc, &day, first.as_str(), rest, writer),
+        _ => carry_out_on(rt, alloc, &day, first, rest, writer),
     }
 }
 
@@ -173,7 +231,7 @@ fn carry_out_on<R: Threads + Wait + Sync, W: Write>(
 }
 
 // Reads the day and does what the words say.
-fn serve<T: Threads + Wait + Sync, R: Read, W: Write>(
+fn serve<T: Threads + Wait + Clock + Sync, R: Read, W: Write>(
     rt: &T,
     alloc: Global,
     words: &[String],

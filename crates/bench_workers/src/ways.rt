@@ -3,9 +3,11 @@
 use crate::stop::Stop;
 use reg_base::NoMemory;
 use reg_book::{ClosedDay, ClosedParts, Parts, Settled, settle_in_place};
-use reg_regions::{PlaceGate, WorkShift, settle_regions};
+use reg_regions::{
+    FreePlaces, OwnedRegion, PlaceGate, WorkShift, settle_regions, settle_without_shifts,
+};
 use reg_tasks::Naming;
-use reg_text::{DayInput, DayParts, read_day, read_day_in_lists};
+use reg_text::{DayInput, DayParts, LEAST_PART, read_day, read_day_in_lists};
 use reg_work::{Gate, Shift, settle_with};
 use std::alloc::Global;
 use std::sync::Wait;
@@ -32,6 +34,37 @@ pub(crate) fn read_in_lists<R: Threads + Sync>(
     }
 }
 
+/// The day that a text says, read by threads as the program does: with its accounts in the lists that they leave.
+pub(crate) fn read_in_parts<R: Threads + Sync>(
+    rt: &R,
+    alloc: Global,
+    text: &[u8],
+    workers: u32,
+) -> Result<DayParts, Stop> {
+    match read_day_in_lists(rt, alloc, text, workers as usize, LEAST_PART) {
+        Ok(day) => Ok(day),
+        Err(_) => Err(Stop::Input),
+    }
+}
+
+/// Settles these lists by regions, as the program does.
+pub(crate) fn close_in_parts<R: Threads + Sync>(
+    rt: &R,
+    alloc: Global,
+    text: &[u8],
+    workers: u32,
+) -> Result<ClosedParts, Stop> {
+    let DayParts {
+        parts,
+        rules,
+        batch,
+    } = read_in_parts(rt, alloc, text, workers)?;
+    match settle_without_shifts(rt, alloc, parts, &rules, &batch, workers, &FreePlaces) {
+        Ok(closed) => Ok(closed),
+        Err(not_settled) => Err(not_settled.fault.into()),
+    }
+}
+
 /// A day with its accounts in one list.
 pub(crate) fn in_one_list(alloc: Global, day: DayInput) -> Result<DayParts, Stop> {
     let DayInput { book, rules, batch } = day;
@@ -45,11 +78,13 @@ pub(crate) fn in_one_list(alloc: Global, day: DayInput) -> Result<DayParts, Stop
     }
 }
 
-/// The places that a worker ran, to be written and compared. Unlike a shift, anybody can make one.
+/// The places that a worker ran, to be written and compared, and the regions that it owned, if it owned some. Unlike a
+/// shift, anybody can make one.
 #[derive(Drop)]
 pub(crate) struct Lane {
     pub(crate) worker: u32,
     pub(crate) places: Vec<u32>,
+    pub(crate) regions: Vec<OwnedRegion>,
 }
 
 fn lane_of<N: Naming>(alloc: Global, shift: &Shift<N>) -> Result<Lane, Stop> {
@@ -62,6 +97,7 @@ fn lane_of<N: Naming>(alloc: Global, shift: &Shift<N>) -> Result<Lane, Stop> {
     Ok(Lane {
         worker: shift.worker,
         places,
+        regions: Vec::new(alloc),
     })
 }
 
@@ -83,9 +119,16 @@ fn lane_of_work(alloc: Global, shift: &WorkShift) -> Result<Lane, Stop> {
             return Err(Stop::Short);
         }
     }
+    let mut regions = Vec::new(alloc);
+    for region in shift.regions() {
+        if regions.push(*region).is_err() {
+            return Err(Stop::Short);
+        }
+    }
     Ok(Lane {
         worker: shift.worker(),
         places,
+        regions,
     })
 }
 

@@ -1,8 +1,9 @@
 -- What workers answered, none of whom lacked memory.
-use Rattle.std.proofs.Common.{◌≡◌, ℕ, zero, suc, ◌<◌, List, [], ◌∷◌, Result, Ok, map, length, get_or, refl, sym, ap}
+use Rattle.std.proofs.Common.{◌≡◌, ℕ, zero, suc, ◌<◌, List, [], ◌∷◌, Result, Ok, Some, map, length, get_or, refl, sym, ap}
 use Rattle.std.proofs.Common.{subst, ◌∙◌, arith}
-use Rattle.std.specs.Prelude.{IfOk}
+use Rattle.std.specs.Prelude.{IfOk, slice_get}
 use Rattle.std.proofs.lemmas.List.{get_or-map, length-map}
+use Rattle.std.proofs.lemmas.Option.{same_Some}
 
 -- each has answered
 pub as-many : {W E : Type 0} (ws : List W) (rs : List (Result W E)) → map Ok ws ≡ rs → length ws ≡ length rs
@@ -25,3 +26,16 @@ same-at (j ∷ js) [] f g len each = absurd (omega arith)
 same-at (j ∷ js) (w ∷ ws) f g len each =
     ap (λ n. n ∷ map g ws) (each zero j w (omega arith))
     ∙ ap (λ ns. f j ∷ ns) (same-at js ws f g (omega arith) (λ i k v lt. each (suc i) k v (omega arith)))
+
+-- what holds of what each job was and became holds at each place of both lists
+pub each-pair : {J W A B : Type 0} (jobs : List J) (ws : List W) (f : J → A) (g : W → B) (P : A → B → Type 0)
+    → ((i : ℕ) (w : W) → i < length ws → (j : J) × (((d : J) → get_or jobs i d ≡ j) × P (f j) (g (get_or ws i w))))
+    → (k : ℕ) (a : A) (b : B) → slice_get (map f jobs) k ≡ Some a → slice_get (map g ws) k ≡ Some b → P a b
+each-pair [] ws f g P each k a b at bt = absurd cc
+each-pair (j ∷ jobs) [] f g P each k a b at bt = absurd cc
+each-pair (j ∷ jobs) (w ∷ ws) f g P each zero a b at bt =
+    let one = each 0 w (omega arith) in
+    subst (P a) (same_Some (g w) b bt)
+    (subst (λ x. P x (g w)) (ap f (sym (one.1.0 j)) ∙ same_Some (f j) a at) one.1.1)
+each-pair (j ∷ jobs) (w ∷ ws) f g P each (suc k) a b at bt =
+    each-pair jobs ws f g P (λ i v lt. each (suc i) v (omega (arith, lt))) k a b at bt

@@ -22,16 +22,15 @@ use Rattle.reg_regions.specs.declared.instruction.Placed.{Placed}
 use Rattle.reg_regions.specs.declared.dealing.Dealing.{Dealing}
 use Rattle.reg_regions.specs.declared.dealing.Swap.{Swap}
 use Rattle.reg_regions.specs.Days.{RegionsAreADay}
-use Rattle.reg_regions.specs.Dealing.{AreDealt, AreTurned, IsAdmitted, put_all}
-use Rattle.reg_regions.specs.Homes.{IsPlaceUpTo}
+use Rattle.reg_regions.specs.Dealing.{AreDealt, AreInPlaces, AreTurned, IsAdmitted}
 use Rattle.reg_regions.specs.Laws.{reply_of}
 use Rattle.reg_regions.specs.Lists.{joined_lists}
 use Rattle.reg_regions.specs.Settling.{places_in}
 use Rattle.reg_regions.specs.Swaps.{IsSwapWithin, exchanged, exchanged_back}
 use Rattle.reg_regions.proofs.Exchanged.{exchanged-same, exchanged-undone, back-same, map-exchanged, map-back}
 use Rattle.reg_regions.proofs.Exchanged.{length-exchanged}
-use Rattle.reg_regions.proofs.Marking.{once-contained, once-within}
-use Rattle.reg_regions.proofs.Replying.{length-put, put-right, same-got, IsTold}
+use Rattle.reg_regions.proofs.Marking.{once-contained}
+use Rattle.reg_regions.proofs.Replying.{IsTold, told-in_places}
 
 module _ (laws : StepLaws) (ready : StaysReady) (stay : NumbersStay) (regions : RegionsAreADay) (day : DayValue)
     (kept : IsDay day) (swaps : List Swap) (after : State) (replies : List Placed)
@@ -100,20 +99,14 @@ module _ (laws : StepLaws) (ready : StaysReady) (stay : NumbersStay) (regions : 
       (numbers-back ∙ sym closing_numbers)
       (subst (λ ns. AgreeOn ns (exchanged_back swaps after) (closing_state day)) (sym numbers-back) agree)
 
--- put at their places, they are the replies of the day
-pub replies-are : (day : DayValue) (slots : List Reply) (replies : List Placed)
-    → length slots ≡ length day.batch.instructions → All (IsTold (reply_of day)) replies
-    → All (IsPlaceUpTo (length slots)) (places_in replies)
-    → ((place : ℕ) → 1 ≤ place → place ≤ length day.batch.instructions → Contains (places_in replies) place)
-    → put_all replies slots ≡ replies_of day
-replies-are day slots replies many right within each =
-    let total : length (replies_of day) ≡ length day.batch.instructions =
-    length-replies_of (setting day) day.book.accounts (day.batch.base + 1) day.batch.instructions in
-    let size : length (put_all replies slots) ≡ length slots = length-put replies slots in
-    same-got (put_all replies slots) (replies_of day) (size ∙ many ∙ sym total) (λ k lt.
-    put-right (reply_of day) replies slots k right within
-    (each (suc k) (omega arith) (omega (arith, lt, size, many)))
-    ∙ sym (slice_get-map (λ (row : LogRow). row.reply) (log_of day) k))
+-- at their places, they are the replies of the day
+pub replies-are : (day : DayValue) (told : List Placed) (replies : List Reply)
+    → AreInPlaces (length day.batch.instructions) told replies → All (IsTold (reply_of day)) told
+    → replies ≡ replies_of day
+replies-are day told replies in_places right =
+    told-in_places (reply_of day) (length day.batch.instructions) told replies (replies_of day) in_places right
+    (length-replies_of (setting day) day.book.accounts (day.batch.base + 1) day.batch.instructions)
+    (λ k. sym (slice_get-map (λ (row : LogRow). row.reply) (log_of day) k))
 
 -- a day, made of what is known of its parts
 pub day-kept : {day : DayValue} → IsBook day.book → AreRules day.rules → IsBatch day.batch
@@ -145,13 +138,9 @@ module _ (laws : StepLaws) (ready : StaysReady) (stay : NumbersStay) (regions : 
 
   -- and the replies are those of the day
   pub turned-replies : replies ≡ replies_of day
-  turned-replies =
-      let put = of_day.settled.put in
-      put.put ∙ replies-are day put.before of_day.settled.told put.as_many
+  turned-replies = replies-are day of_day.settled.told replies of_day.settled.in_places
       (replies-right laws ready stay regions day kept of_day.swaps of_day.after of_day.settled.told of_day.within
       of_day.settled.dealt each-told)
-      (subst (λ n. All (IsPlaceUpTo n) (places_in of_day.settled.told)) (sym put.as_many)
-      (once-within (length day.batch.instructions) (places_in of_day.settled.told) of_day.settled.each_once)) each-told
 
 -- the book after the day
 pub book-after : ClosingIsABook → {day : DayValue} → IsDay day

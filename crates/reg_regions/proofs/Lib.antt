@@ -1,5 +1,6 @@
 mod Membership
 mod Keeping
+mod Known
 mod Restricted
 mod Exchanged
 mod Across

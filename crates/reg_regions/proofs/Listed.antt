@@ -22,7 +22,7 @@ use Rattle.reg_regions.specs.declared.dealing.Deal.{Deal}
 use Rattle.reg_regions.specs.declared.instruction.Placed.{Placed}
 use Rattle.reg_regions.specs.declared.running.settled_list.SettledList.{SettledList}
 use Rattle.reg_regions.specs.Days.{Run, all_opening, AreRuns}
-use Rattle.reg_regions.specs.Dealing.{AreDealt, AreDealtOnce, AreSettledOnce, put_all}
+use Rattle.reg_regions.specs.Dealing.{AreDealt, AreDealtOnce, AreInPlaces, AreSettledOnce}
 use Rattle.reg_regions.specs.Homes.{AreHome, AreAllHome, dealt_places}
 use Rattle.reg_regions.specs.Settling.{IsRun, places_in}
 use Rattle.reg_regions.specs.Lists.{joined_lists, sizes_of}
@@ -131,15 +131,17 @@ module _ (c : Setting) (b : BatchValue) (openings : List State) (deals : List De
       pub places-once : (p : ℕ) → times p (settled_places ss) ≡ once (length b.instructions) p
       places-once p = ap (times p) runs-whole.1 ∙ each p
 
-      -- and the replies were put at their places
-      pub settled-once : (replies slots : List Reply) → length slots ≡ length b.instructions
-          → replies ≡ put_all (flat_map (λ s. s.replies.items) ss) slots
+      -- and the replies stand at their places
+      pub settled-once : (replies : List Reply) (own : List (Vec Placed Global)) → own ≡ map (λ s. s.replies) ss
+          → AreInPlaces (length b.instructions) (joined_lists own) replies
           → AreSettledOnce c b (joined_lists lists) (joined_lists new) replies
-      settled-once replies slots many put = record {
+      settled-once replies own is in_places = record {
         told = flat_map (λ s. s.replies.items) ss;
         dealt = dealt-lists;
         each_once = λ p. ap (times p) (places-flat ss) ∙ places-once p;
-        put = record { before = slots; as_many = many; put = put };
+        in_places = subst (λ told. AreInPlaces (length b.instructions) told replies)
+            (ap joined_lists is ∙ flat_map-map (λ (v : Vec Placed Global). v.items) (λ (s : SettledList). s.replies) ss)
+            in_places;
       }
 
 module _ (c : Setting) (b : BatchValue) where

@@ -6,11 +6,10 @@ use Rattle.std.specs.Prelude.{All, Contains, IsTrue}
 use Rattle.std.proofs.lemmas.Bool.{cases_eq, cases_lt, eq-eqb, ne_eqb}
 use Rattle.std.proofs.lemmas.Grind.{flat_map-append}
 use Rattle.std.proofs.lemmas.List.{get_or-set_other, get_or-set_same, take_more}
-use Rattle.std.proofs.lemmas.List.Elements.{Contains-get_or}
 use Rattle.reg_facts.specs.Counting.{times, once, one_if}
 use Rattle.reg_facts.proofs.lemmas.Times.{once-yes, once-past, once-zero, times-append}
 use Rattle.reg_regions.specs.declared.dealing.Deal.{Deal}
-use Rattle.reg_regions.specs.Homes.{AreMarked, set_mark, IsPlaceUpTo, dealt_places}
+use Rattle.reg_regions.specs.Homes.{AreMarked, set_mark, dealt_places}
 use Rattle.reg_regions.proofs.Membership.{contains_first, contains_later}
 
 -- one place more was marked, whose mark was not set
@@ -78,32 +77,6 @@ contained p (q ∷ ps) one = elim (cases_eq q p) [
 pub once-contained : (n : ℕ) (ps : List ℕ) → ((p : ℕ) → times p ps ≡ once n p) → (p : ℕ) → 1 ≤ p → p ≤ n
     → Contains ps p
 once-contained n ps all p one le = contained p ps (let e = all p ∙ once-yes n p one le in omega (arith, e))
-
--- what is contained in a list stands in it
-counted : (p : ℕ) (ps : List ℕ) → Contains ps p → 1 ≤ times p ps
-counted p [] (k, lt, is) = absurd (omega (arith, lt))
-counted p (q ∷ ps) (zero, lt, is) =
-    let here : one_if (eqb q p) ≡ 1 = ap one_if (eq-eqb q p is) in omega (arith, here)
-counted p (q ∷ ps) (suc k, lt, is) = let later = counted p ps (k, omega (arith, lt), is) in omega (arith, later)
-
--- each that is there once is a place of the batch
-pub once-within : (n : ℕ) (ps : List ℕ) → ((p : ℕ) → times p ps ≡ once n p) → All (IsPlaceUpTo n) ps
-once-within n ps all k d lt =
-    let p = get_or ps k d in
-    let one = counted p ps (Contains-get_or ps k d lt) in
-    let is = all p in
-    record {
-      from_one = elim (cases_lt p 1) [
-        | inl low ↦
-            let none : once n p ≡ 0 = ap (once n) (let e : p ≡ 0 = omega (arith, low) in e) ∙ once-zero n in
-            absurd (omega (arith, one, is, none))
-        | inr high ↦ high
-      ];
-      within = elim (cases_lt n p) [
-        | inl high ↦ let none = once-past n p high in absurd (omega (arith, one, is, none))
-        | inr low ↦ low
-      ];
-    }
 
 -- the places of one region more
 pub one-more : (deals : List Deal) (k : ℕ) (d : Deal) → k < length deals → d ≡ get_or deals k d

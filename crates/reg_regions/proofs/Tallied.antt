@@ -1,111 +1,74 @@
 -- Settled regions counted: each number once, and each place as often as it was dealt out.
-use Rattle.std.proofs.Common.{◌≡◌, ℕ, zero, suc, ◌+◌, ◌<◌, ◌≤◌, ◌==◌, Bool, true, false, List, [], ◌∷◌, ◌++◌}
-use Rattle.std.proofs.Common.{append_assoc, length, map, refl, sym, ap, ◌∙◌, arith, add-one}
-use Rattle.std.specs.Prelude.{IsPermutation, All}
-use Rattle.std.specs.List.{flat_map, range_with_len, sum_by}
-use Rattle.std.specs.List.Sorted.{IsNonDecreasingBy}
-use Rattle.std.proofs.lemmas.List.{length-map, get_or-map}
+use Rattle.std.proofs.Common.{◌≡◌, ℕ, zero, suc, ◌+◌, ◌<◌, ◌==◌, Bool, true, false, cond, List, [], ◌∷◌, ◌++◌}
+use Rattle.std.proofs.Common.{append_assoc, refl, sym, ap, ◌∙◌, arith, add-one}
+use Rattle.std.specs.Prelude.{All}
+use Rattle.std.specs.List.{flat_map, range_with_len}
+use Rattle.std.proofs.lemmas.Bool.{eqb-true}
 use Rattle.std.proofs.lemmas.List.Elements.{All-append, All-nil, All-head, All-tail}
-use Rattle.std.proofs.lemmas.List.Sums.{sum_by-cons}
-use Rattle.std.proofs.lemmas.List.Sorted.{sum_by-IsPermutation, IsNonDecreasingBy-from_default}
-use Rattle.reg_facts.proofs.lemmas.Times.{equal-one, times-contains, times-append}
-use Rattle.reg_base.specs.Rising.{count_up}
-use Rattle.reg_base.proofs.lemmas.Rising.{length-count_up, get_or-count_up}
-use Rattle.reg_facts.specs.Counting.{one_if, total, times, once}
+use Rattle.reg_facts.proofs.lemmas.Times.{equal-one, times-append}
+use Rattle.reg_facts.specs.Counting.{one_if, total, times}
+use Rattle.reg_facts.specs.Lists.{first_numbers}
 use Rattle.reg_facts.proofs.lemmas.Totals.{total-append}
+use Rattle.reg_base.specs.Batch.{BatchValue}
+use Rattle.reg_rules.specs.State.{State, Setting}
+use Rattle.reg_regions.specs.declared.dealing.Deal.{Deal}
 use Rattle.reg_regions.specs.declared.running.settled_list.SettledList.{SettledList}
 use Rattle.reg_regions.specs.Settling.{kept, places_in}
-use Rattle.reg_facts.specs.Lists.{first_numbers}
-use Rattle.reg_regions.specs.Stealing.{numbers_of, settled_places, times_noted}
-use Rattle.reg_regions.proofs.Placing.{times-count}
+use Rattle.reg_regions.specs.Stealing.{IsSettledList, AreSettled, numbers_of, places_at, settled_places, times_noted}
 
--- a sum is the same in another order
-total-sum : {X : Type 0} (f : X → ℕ) (xs : List X) → total f xs ≡ sum_by f xs
-total-sum f [] = refl
-total-sum f (x ∷ xs) = ap (λ n. f x + n) (total-sum f xs) ∙ sym (sum_by-cons f x xs)
+-- a list without the first of its numbers that is this one
+without : ℕ → List ℕ → List ℕ
+without x [] = []
+without x (y ∷ ys) = cond (y == x) ys (y ∷ without x ys)
 
-total-permuted : {X : Type 0} (f : X → ℕ) (xs ys : List X) → IsPermutation xs ys → total f ys ≡ total f xs
-total-permuted f xs ys same =
-    total-sum f ys ∙ sum_by-IsPermutation f xs ys same ∙ sym (total-sum f xs)
+removed : (g : ℕ → ℕ) (x : ℕ) (ys : List ℕ) → 0 < times x ys → total g ys ≡ g x + total g (without x ys)
+unfolding without
+removed g x [] some = absurd (omega (arith, some))
+removed g x (y ∷ ys) some = by (y == x) refl (removed g x ys)
+  where
+    by : (b : Bool) → (y == x) ≡ b → (0 < times x ys → total g ys ≡ g x + total g (without x ys))
+        → g y + total g ys ≡ g x + total g (cond b ys (y ∷ without x ys))
+    by true same rest = ap (λ z. g z + total g ys) (eqb-true y x same)
+    by false other rest =
+        let none : one_if (y == x) ≡ 0 = ap one_if other in
+        let more = rest (omega (arith, some, none)) in
+        omega (arith, more)
 
-times-mapped : {X : Type 0} (f : X → ℕ) (p : ℕ) (xs : List X) → times p (map f xs) ≡ total (λ x. one_if (f x == p)) xs
-times-mapped f p [] = refl
-times-mapped f p (x ∷ xs) = ap (λ n. one_if (f x == p) + n) (times-mapped f p xs)
+-- a sum over numbers is the same, if each stands as often in both
+pub total-same : (g : ℕ → ℕ) (xs ys : List ℕ) → ((p : ℕ) → times p xs ≡ times p ys) → total g xs ≡ total g ys
+total-same g [] [] same = refl
+total-same g [] (y ∷ ys) same =
+    let here = same y in let one = equal-one y y refl in absurd (omega (arith, here, one))
+total-same g (x ∷ xs) ys same =
+    let here = same x in
+    let one = equal-one x x refl in
+    let some : 0 < times x ys = omega (arith, here, one) in
+    let rest = total-same g xs (without x ys) (λ p.
+    let both = same p in let less = removed (λ y. one_if (y == p)) x ys some in omega (arith, both, less)) in
+    let all = removed g x ys some in
+    omega (arith, rest, all)
 
-times-places : (p : ℕ) (ss : List SettledList)
-    → times p (settled_places ss) ≡ total (λ s. times p (places_in s.replies.items)) ss
-times-places p [] = refl
-times-places p (s ∷ ss) =
+-- the places of settled regions, by their numbers
+pub times-places : (c : Setting) (b : BatchValue) (openings : List State) (deals : List Deal) (p : ℕ)
+    (ss : List SettledList) → AreSettled c b openings deals ss
+    → times p (settled_places ss) ≡ total (λ n. times p (places_at deals n)) (numbers_of ss)
+times-places c b openings deals p [] all = refl
+times-places c b openings deals p (s ∷ ss) all =
     times-append p (places_in s.replies.items) (settled_places ss)
-    ∙ ap (λ n. times p (places_in s.replies.items) + n) (times-places p ss)
+    ∙ ap (λ ps. times p ps + times p (settled_places ss))
+    (All-head (IsSettledList c b openings deals) s ss all).places
+    ∙ ap (λ n. times p (places_at deals s.number) + n)
+    (times-places c b openings deals p ss (All-tail (IsSettledList c b openings deals) s ss all))
 
--- settled regions in another order have the same numbers and the same places
-pub numbers-permuted : (p : ℕ) (ss ts : List SettledList) → IsPermutation ss ts
-    → times p (numbers_of ts) ≡ times p (numbers_of ss)
-numbers-permuted p ss ts same =
-    times-mapped (λ s. s.number) p ts ∙ total-permuted (λ (s : SettledList). one_if (s.number == p)) ss ts same
-    ∙ sym (times-mapped (λ s. s.number) p ss)
-
-pub places-permuted : (p : ℕ) (ss ts : List SettledList) → IsPermutation ss ts
-    → times p (settled_places ts) ≡ times p (settled_places ss)
-places-permuted p ss ts same =
-    times-places p ts ∙ total-permuted (λ (s : SettledList). times p (places_in s.replies.items)) ss ts same
-    ∙ sym (times-places p ss)
-
--- ---- numbers that do not fall
-
-rise-tail : (x : ℕ) (xs : List ℕ) → IsNonDecreasingBy (λ y. y) (x ∷ xs) → IsNonDecreasingBy (λ y. y) xs
-rise-tail x xs rise i j d le lt = rise (suc i) (suc j) d (omega (arith, le)) (omega (arith, lt))
-
-first-least : (x : ℕ) (xs : List ℕ) → IsNonDecreasingBy (λ y. y) (x ∷ xs) → (p : ℕ) → 0 < times p (x ∷ xs) → x ≤ p
-first-least x xs rise p some =
-    let (k, lt, is) = times-contains (x ∷ xs) p some in
-    let le = rise 0 k p (omega arith) lt in
-    omega (arith, le, is)
-
--- they are the same, if each stands as often in both
-same-numbers : (xs ys : List ℕ) → IsNonDecreasingBy (λ y. y) xs → IsNonDecreasingBy (λ y. y) ys
-    → ((p : ℕ) → times p xs ≡ times p ys) → xs ≡ ys
-same-numbers [] [] rise other each = refl
-same-numbers [] (y ∷ ys) rise other each =
-    let here = each y in let one = equal-one y y refl in absurd (omega (arith, here, one))
-same-numbers (x ∷ xs) [] rise other each =
-    let here = each x in let one = equal-one x x refl in absurd (omega (arith, here, one))
-same-numbers (x ∷ xs) (y ∷ ys) rise other each =
-    let here = each x in
-    let there = each y in
-    let most = first-least y ys other x (omega (arith, here, equal-one x x refl)) in
-    let least = first-least x xs rise y (omega (arith, there, equal-one y y refl)) in
-    let same : x ≡ y = omega (arith, most, least) in
-    ap (λ n. n ∷ xs) same ∙ ap (λ ns. y ∷ ns) (same-numbers xs ys (rise-tail x xs rise) (rise-tail y ys other)
-    (λ p. let both = each p in
-    let first : one_if (x == p) ≡ one_if (y == p) = ap (λ n. one_if (n == p)) same in
-    omega (arith, both, first)))
-
-rise-count : (n : ℕ) → IsNonDecreasingBy (λ y. y) (count_up 1 n)
-rise-count n = IsNonDecreasingBy-from_default (λ y. y) (count_up 1 n) 0 (λ i j le lt.
-    let size = length-count_up 1 n in
-    let one = get_or-count_up 1 n i (omega (arith, le, lt, size)) in
-    let other = get_or-count_up 1 n j (omega (arith, lt, size)) in
-    omega (arith, le, one, other))
-
-rise-numbers : (ss : List SettledList) → IsNonDecreasingBy (λ s. s.number) ss
-    → IsNonDecreasingBy (λ y. y) (numbers_of ss)
-rise-numbers [] rise i j d le lt = absurd (omega (arith, lt))
-rise-numbers (s ∷ ss) rise i j d le lt =
-    let size = length-map (s ∷ ss) (λ (t : SettledList). t.number) in
-    let within : j < length (s ∷ ss) = omega (arith, lt, size) in
-    let one = get_or-map (λ (t : SettledList). t.number) (s ∷ ss) i s d (omega (arith, le, within)) in
-    let other = get_or-map (λ (t : SettledList). t.number) (s ∷ ss) j s d within in
-    let r = rise i j s le within in
-    omega (arith, one, other, r)
-
--- settled regions in order, each of the numbers 1 to n once
-pub sorted-numbers : (n : ℕ) (ss ts : List SettledList) → IsPermutation ss ts → IsNonDecreasingBy (λ s. s.number) ts
-    → ((p : ℕ) → times p (numbers_of ss) ≡ once n p) → numbers_of ts ≡ count_up 1 n
-sorted-numbers n ss ts same rise each =
-    same-numbers (numbers_of ts) (count_up 1 n) (rise-numbers ts rise) (rise-count n)
-    (λ p. numbers-permuted p ss ts same ∙ each p ∙ sym (times-count n p))
+-- regions in another order have the same places
+pub places-same : (c : Setting) (b : BatchValue) (openings : List State) (deals : List Deal) (p : ℕ)
+    (ss ts : List SettledList) → AreSettled c b openings deals ss → AreSettled c b openings deals ts
+    → ((q : ℕ) → times q (numbers_of ss) ≡ times q (numbers_of ts))
+    → times p (settled_places ss) ≡ times p (settled_places ts)
+places-same c b openings deals p ss ts all each same =
+    times-places c b openings deals p ss all
+    ∙ total-same (λ n. times p (places_at deals n)) (numbers_of ss) (numbers_of ts) same
+    ∙ sym (times-places c b openings deals p ts each)
 
 -- ---- what workers noted
 

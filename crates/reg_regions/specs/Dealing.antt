@@ -1,5 +1,6 @@
 -- What comes of accounts that are dealt out to regions.
-use Rattle.std.specs.Prelude.{◌≡◌, ℕ, ◌-◌, List, [], ◌∷◌, All, length, slice_set}
+use Rattle.std.specs.Prelude.{◌≡◌, ℕ, suc, List, All, Contains, Some, length, slice_get}
+use Rattle.std.specs.declared.vec.IntoIter.{IntoIter}
 use Rattle.std.specs.declared.vec.Vec.{Vec}
 use Rattle.std.proofs.Common.{Global}
 use Rattle.reg_base.specs.Batch.{BatchValue}
@@ -38,24 +39,22 @@ pub record IsAdmitted (c : Setting) (b : BatchValue) (d : Dealing) (old : State)
   pub home : AreAllHome c b new d.deals.items
   pub each_once : AreDealtOnce b d.deals.items
 
--- the list after each of these replies was put at its place, counted from 1
-abbrev pub put_all : List Placed → List Reply → List Reply
-put_all [] slots = slots
-put_all (p ∷ placed) slots = put_all placed (slice_set slots (p.place - 1) p.reply)
+-- for each of so many places there is one of these replies, which is the one to its instruction
+pub record AreInPlaces (count : ℕ) (told : List Placed) (replies : List Reply) : Type 0 where
+  pub as_many : length replies ≡ count
+  pub each : (k : ℕ) (r : Reply) → slice_get replies k ≡ Some r → Contains told (record { place = suc k; reply = r })
 
--- these replies were put at their places among so many
-pub record ArePut (count : ℕ) (told : List Placed) (replies : List Reply) : Type 0 where
-  pub before : List Reply
-  pub as_many : length before ≡ count
-  pub put : replies ≡ put_all told before
+-- what is left of each region is among these replies
+abbrev pub AreLeftOf : List Placed → List (IntoIter Placed Global) → Type 0
+AreLeftOf told left = All (λ own. All (Contains told) own.rest.items) left
 
--- accounts were settled region by region, each place of the batch once and no other, and the replies put at their
--- places
+-- accounts were settled region by region, each place of the batch once and no other, and the replies stand at
+-- their places
 pub record AreSettledOnce (c : Setting) (b : BatchValue) (old new : State) (replies : List Reply) : Type 0 where
   pub told : List Placed
   pub dealt : AreDealt c b old new told
   pub each_once : (place : ℕ) → times place (places_in told) ≡ once (length b.instructions) place
-  pub put : ArePut (length b.instructions) told replies
+  pub in_places : AreInPlaces (length b.instructions) told replies
 
 -- accounts were swapped, settled so, and swapped back
 pub record AreTurned (c : Setting) (b : BatchValue) (old new : State) (replies : List Reply) : Type 0 where

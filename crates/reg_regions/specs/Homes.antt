@@ -1,11 +1,12 @@
 -- Regions whose instructions have their accounts at hand, where their indexes say.
 use Rattle.std.specs.Prelude.{◌≡◌, ℕ, ◌-◌, ◌<◌, ◌≤◌, List, [], ◌∷◌, length, slice_get, slice_index}
-use Rattle.std.specs.Prelude.{zero, suc, Bool, false, slice_index_or}
+use Rattle.std.specs.Prelude.{zero, suc, All, Bool, true, false, slice_index_or}
 use Rattle.std.specs.List.{flat_map}
 use Rattle.std.specs.Option.{option_map_or}
 use Rattle.std.specs.declared.vec.Vec.{Vec}
 use Rattle.std.proofs.Common.{Global}
 use Rattle.reg_base.specs.Batch.{BatchValue}
+use Rattle.reg_base.specs.Directory.{DirectoryValue, is_known}
 use Rattle.reg_base.specs.Footprint.{footprint}
 use Rattle.reg_facts.specs.Counting.{times, one_if}
 use Rattle.reg_account.specs.Account.{AccountValue}
@@ -17,6 +18,10 @@ use Rattle.reg_regions.specs.Regions.{RiseAbove}
 -- the accounts that the instruction at this place touches
 abbrev pub accounts_touched : Setting → BatchValue → ℕ → List ℕ
 accounts_touched c b place = option_map_or (λ i. footprint c.directory i.act) (slice_get b.instructions (place - 1)) []
+
+-- each of these accounts is in the directory
+abbrev pub AreKnown : DirectoryValue → List ℕ → Type 0
+AreKnown directory ns = All (λ a. is_known directory a ≡ true) ns
 
 -- there is an instruction at this place, and the accounts that it touches stand at these indexes
 pub record IsHome (c : Setting) (b : BatchValue) (ns : List ℕ) (place : ℕ) (indexes : List ℕ) : Type 0 where
@@ -50,8 +55,3 @@ set_mark marks (suc k) = one_if (slice_index_or marks k false)
 -- each number stands among these places as often as its mark says
 abbrev pub AreMarked : List ℕ → List Bool → Type 0
 AreMarked places marks = (place : ℕ) → times place places ≡ set_mark marks place
-
--- a place from 1 to this one
-pub record IsPlaceUpTo (count place : ℕ) : Type 0 where
-  pub from_one : 1 ≤ place
-  pub within : place ≤ count

@@ -1,5 +1,6 @@
 -- Workers that take regions from deques: what a region begins with, and what comes of all.
 use Rattle.std.specs.Prelude.{◌≡◌, ℕ, ◌+◌, ◌-◌, ◌<◌, List, [], All, map, length, Some}
+use Rattle.std.specs.Prelude.{Contains, Option}
 use Rattle.std.specs.Prelude.{Bool, true}
 use Rattle.std.specs.Prelude.{slice_get, slice_index_or}
 use Rattle.std.specs.List.{flat_map}
@@ -53,6 +54,10 @@ AreSettled c b openings deals settled = All (IsSettledList c b openings deals) s
 -- the numbers of settled regions
 abbrev pub numbers_of : List SettledList → List ℕ
 numbers_of settled = map (λ s. s.number) settled
+
+-- each place has one of these, or nothing
+abbrev pub AreAmong : List SettledList → List (Option SettledList) → Type 0
+AreAmong settled places = All (λ o. (s : SettledList) → o ≡ Some s → Contains settled s) places
 
 -- the places of their instructions, in the order in which these were carried out
 abbrev pub settled_places : List SettledList → List ℕ

@@ -2,6 +2,7 @@
 //! then stands at home.
 
 ghost use Rattle.std.specs.Prelude.{◌≡◌, ◌≤◌, All, false, IsTrue, MatchOption, length};
+ghost use Rattle.reg_book.specs.Book.{directory_of};
 ghost use Rattle.reg_regions.specs.Dealing.{IsAdmitted, AreDealtOnce};
 ghost use Rattle.reg_regions.specs.Homes.{AreAllHome};
 ghost use Rattle.reg_regions.specs.Lists.{joined_lists};
@@ -33,6 +34,7 @@ pub(crate) fn admit<R: Threads + Sync>(
     lists: Vec<Vec<Account>>,
     workers: u32,
 ) -> (Option<Dealing>, Vec<Vec<Account>>)
+    requires directory { setting.now.directory ≡ directory_of (joined_lists lists.items) }
     ensures { MatchOption result.0 (joined_lists result.1.items ≡ joined_lists lists.items)
         (λ dealing. IsAdmitted setting.now batch.now dealing (joined_lists lists.items) result.1.items) }
 {
@@ -50,6 +52,7 @@ fn admit_in<R: Threads + Sync>(
     workers: u32,
     lists: &mut [Vec<Account>],
 ) -> Option<Dealing>
+    requires { setting.now.directory ≡ directory_of (joined_lists lists.old) }
     ensures { MatchOption result (joined_lists lists.new ≡ joined_lists lists.old)
         (λ dealing. IsAdmitted setting.now batch.now dealing (joined_lists lists.old) lists.new) }
 {
@@ -117,7 +120,8 @@ fn swap_home<R: Threads + Sync>(
     lists: &mut [Vec<Account>],
     runs: u32,
 ) -> bool
-    requires { All (IsSwapWithin (length (joined_lists lists.old))) dealing.now.swaps.items }
+    requires within { All (IsSwapWithin (length (joined_lists lists.old))) dealing.now.swaps.items }
+    requires directory { setting.now.directory ≡ directory_of (joined_lists lists.old) }
     ensures swapped { IsTrue result
         → joined_lists lists.new ≡ exchanged dealing.now.swaps.items (joined_lists lists.old) }
     ensures home { IsTrue result → AreAllHome setting.now batch.now lists.new dealing.now.deals.items }

@@ -6,9 +6,9 @@ ghost use Rattle.reg_regions.specs.Lists.{joined_lists};
 
 use crate::advice::bundles::Bundles;
 use crate::advice::homes::Homes;
-use crate::advice::labels::find_labels;
+use crate::advice::labels::Labels;
 use crate::advice::layout::{Layout, MOST_REGIONS};
-use crate::advice::lookups::{find_by_runs, find_touches};
+use crate::advice::lookups::find_by_runs;
 use crate::advice::movers::Movers;
 use crate::advice::numbers::{index_at, number_or_zero};
 use crate::dealing::{Deal, Dealing};
@@ -63,10 +63,11 @@ fn try_deal<R: Threads + Sync>(
         return Ok(None);
     };
     let runs = runs_of(batch.len(), workers);
-    let indexes = find_by_runs(rt, alloc, lists, &layout, batch.instructions(), runs)?;
-    match deal_bundles(alloc, &layout, &indexes, batch.len(), workers)? {
+    let mut found = find_by_runs(rt, alloc, lists, &layout, batch.instructions(), runs)?;
+    found.reverse();
+    match deal_bundles(alloc, &layout, &found, batch.len(), workers)? {
         Some(dealing) => Ok(Some(dealing)),
-        None => Ok(Some(deal_to_one(alloc, lists.len(), batch.len(), indexes)?)),
+        None => Ok(Some(deal_to_one(alloc, lists.len(), batch.len(), found)?)),
     }
 }
 
@@ -75,8 +76,13 @@ fn deal_to_one(
     alloc: Global,
     lists: usize,
     instructions: u32,
-    indexes: Vec<Indexes>,
+    runs: Vec<Vec<Indexes>>,
 ) -> Result<Dealing, NoMemory> {
+    let mut indexes = Vec::with_capacity(alloc, instructions as usize)?;
+    for run in runs {
+        let mut run = run;
+        indexes.append(&mut run)?;
+    }
     let mut deals = Vec::new(alloc);
     deals.push(Deal::of_all(alloc, instructions, indexes)?)?;
     Ok(Dealing {
@@ -90,21 +96,33 @@ fn deal_to_one(
 fn deal_bundles(
     alloc: Global,
     lists: &Layout,
-    indexes: &[Indexes],
+    runs: &[Vec<Indexes>],
     instructions: u32,
     workers: u32,
 ) -> Result<Option<Dealing>, NoMemory> {
-    let touches = find_touches(alloc, indexes)?;
-    let labels = find_labels(alloc, instructions, lists.accounts, &touches)?;
-    let bundles = Bundles::of(alloc, lists.accounts, &labels, &touches)?;
+    let labels = Labels::of(alloc, instructions, lists.accounts, runs)?;
+    let bundles = Bundles::of(alloc, &labels)?;
     let Some(housed) = house(alloc, lists, &bundles, instructions, workers)? else {
         return Ok(None);
     };
     let Housed { layout, homes } = housed;
-    let Some(movers) = Movers::of(alloc, &layout, bundles, &homes.regions)? else {
+    let Labels {
+        of_places,
+        touchers,
+        ..
+    } = labels;
+    let swapped = Movers::of(
+        alloc,
+        &layout,
+        touchers,
+        &of_places,
+        &bundles.members,
+        &homes,
+    )?;
+    let Some(movers) = swapped else {
         return Ok(None);
     };
-    let deals = deal_all(alloc, &layout, &homes, &labels, indexes, &movers.stands)?;
+    let deals = deal_all(alloc, &layout, &homes, &of_places, runs, &movers.stands)?;
     Ok(Some(Dealing {
         joins: layout.joins,
         swaps: movers.swaps,
@@ -155,17 +173,19 @@ fn deal_all(
     layout: &Layout,
     homes: &Homes,
     labels: &[u32],
-    indexes: &[Indexes],
+    runs: &[Vec<Indexes>],
     stands: &[u32],
 ) -> Result<Vec<Deal>, NoMemory> {
     let mut deals = empty_deals(alloc, &homes.loads)?;
     let mut place: u32 = 0;
-    for own in indexes {
-        place = place.saturating_add(1);
-        let home = number_or_zero(&homes.regions, number_or_zero(labels, place));
-        let here = moved(own, stands, layout.start(home));
-        if (home as usize) < deals.len() {
-            add_place(&mut deals[home as usize], place, here)?;
+    for run in runs {
+        for own in run {
+            place = place.saturating_add(1);
+            let home = number_or_zero(&homes.regions, number_or_zero(labels, place));
+            let here = moved(own, stands, layout.start(home));
+            if (home as usize) < deals.len() {
+                add_place(&mut deals[home as usize], place, here)?;
+            }
         }
     }
     Ok(deals)

@@ -1,9 +1,12 @@
-//! What workers pass before each instruction.
+//! What workers pass before each instruction, and behind it.
 
-/// What a worker passes before it carries out an instruction. Several workers may pass at once.
+/// What a worker passes before it carries out an instruction, and behind it. Several workers may pass at once.
 pub trait PlaceGate: Sync {
     /// A worker, counted from 0, is about to carry out the instruction at a place, counted from 1.
     fn enter(&self, worker: u32, place: u32);
+
+    /// It has carried it out. A gate that does not say otherwise does nothing.
+    fn leave(&self, _worker: u32, _place: u32) {}
 }
 
 /// A gate that does nothing.

@@ -22,7 +22,7 @@ use crate::dealing::Deal;
 use crate::gate::PlaceGate;
 use crate::running::deques::{ReadyWorkers, deal_regions, make_workers};
 use crate::running::region::{Cutting, ListRegion, make_regions};
-use crate::running::replies::replies_for_all;
+use crate::running::replies::in_places;
 use crate::running::settled_list::SettledList;
 use crate::running::shift::Notes;
 use crate::running::taker::Sharing;
@@ -194,10 +194,14 @@ fn settle_by_workers<C: Cutting + Send + Sync, N: Notes + Send, R: Threads + Syn
     )?;
     let Done { settled, notes } = done;
     let notes = with_idle(alloc, busy, workers, notes)?;
-    let settled = in_order(settled);
-    let slots = replies_for_all(alloc, batch.len())?;
-    let all = take_apart(alloc, settled, notes, slots)?;
-    Ok(all)
+    let ordered = in_order(alloc, count, settled)?;
+    let (lists, told) = take_apart(alloc, ordered)?;
+    let replies = in_places(alloc, batch.len(), told)?;
+    Ok(Outcome {
+        lists,
+        replies,
+        notes,
+    })
 }
 
 // Deals regions to the deques of workers, lets these run them, and counts up what they did.

@@ -1,15 +1,17 @@
 //! Whether the accounts of all regions stand where these say.
 
-ghost use Rattle.std.specs.Prelude.{◌≡◌, ◌<◌, ◌≤◌, IsTrue, length, slice_index};
+ghost use Rattle.std.specs.Prelude.{◌≡◌, ◌<◌, ◌≤◌, All, IsTrue, true, length, slice_index};
+ghost use Rattle.std.specs.Option.{option_map_or};
 ghost use Rattle.std.specs.Thread.{IsSync};
+ghost use Rattle.reg_base.specs.Directory.{is_known};
 ghost use Rattle.reg_rules.specs.State.{numbers};
 ghost use Rattle.reg_book.specs.Indexes.{StandAt, index_lists};
-ghost use Rattle.reg_regions.specs.Homes.{IsHome, AreHome, AreAllHome};
+ghost use Rattle.reg_regions.specs.Homes.{IsHome, AreHome, AreAllHome, AreKnown};
 
 use crate::dealing::Deal;
 use crate::instruction::Indexes;
 use reg_account::Account;
-use reg_base::{AccountNo, Batch};
+use reg_base::{AccountNo, Batch, Directory};
 use reg_rules::Setting;
 use std::thread;
 use std::thread::Threads;
@@ -25,6 +27,7 @@ pub(crate) fn are_all_home<R: Threads + Sync>(
     deals: &[Deal],
     runs: u32,
 ) -> bool
+    requires known { All (λ l. AreKnown setting.now.directory (numbers l.items)) lists.now }
     ensures { IsTrue result → AreAllHome setting.now batch.now lists.now deals.now }
 {
     if runs < 2 {
@@ -48,16 +51,20 @@ fn are_both_home<R: Threads + Sync>(
     later: &[Deal],
     runs: u32,
 ) -> bool
-    requires { 2 ≤ runs }
+    requires runs { 2 ≤ runs }
+    requires run { All (λ l. AreKnown setting.now.directory (numbers l.items)) run.now }
+    requires rest { All (λ l. AreKnown setting.now.directory (numbers l.items)) rest.now }
     ensures run { IsTrue result → AreAllHome setting.now batch.now run.now dealt.now }
     ensures rest { IsTrue result → AreAllHome setting.now batch.now rest.now later.now }
 {
     let front = move || -> bool
+        requires { All (λ l. AreKnown setting.now.directory (numbers l.items)) run.now }
         ensures { IsTrue result
             → AreAllHome setting.entry.now batch.entry.now run.entry.now dealt.entry.now }
     { are_listed_home(setting, batch, run, dealt) };
     let back = move || -> bool
-        requires { IsSync R.row × (2 ≤ runs) }
+        requires { IsSync R.row × (2 ≤ runs)
+            × All (λ l. AreKnown setting.now.directory (numbers l.items)) rest.now }
         ensures { IsTrue result
             → AreAllHome setting.entry.now batch.entry.now rest.entry.now later.entry.now }
     { are_all_home(rt, setting, batch, rest, later, runs - 1) };
@@ -67,6 +74,7 @@ fn are_both_home<R: Threads + Sync>(
 
 // The same by one thread.
 fn are_listed_home(setting: &Setting, batch: &Batch, lists: &[Vec<Account>], deals: &[Deal]) -> bool
+    requires { All (λ l. AreKnown setting.now.directory (numbers l.items)) lists.now }
     ensures { IsTrue result → AreAllHome setting.now batch.now lists.now deals.now }
 {
     match lists.split_first() {
@@ -90,6 +98,7 @@ fn are_home(
     places: &[u32],
     indexes: &[Indexes],
 ) -> bool
+    requires { AreKnown setting.now.directory (numbers accounts.now) }
     ensures { IsTrue result
         → AreHome setting.now batch.now (numbers accounts.now) places.now (index_lists indexes.now) }
 {
@@ -109,7 +118,8 @@ fn are_home(
     true
 }
 
-// Whether there is an instruction at this place, and the accounts that it touches stand at these indexes.
+// Whether there is an instruction at this place, and the accounts that it touches stand at these indexes. Accounts that
+// stand in a region are known: so the directory is asked for none of them.
 fn is_home(
     setting: &Setting,
     batch: &Batch,
@@ -117,6 +127,7 @@ fn is_home(
     place: u32,
     indexes: &Indexes,
 ) -> bool
+    requires { AreKnown setting.now.directory (numbers accounts.now) }
     ensures { IsTrue result → IsHome setting.now batch.now (numbers accounts.now) place indexes.now.items }
 {
     if place < 1 {
@@ -125,8 +136,27 @@ fn is_home(
     if place > batch.len() {
         return false;
     }
-    let touched = batch.at(place).touches(setting.directory);
-    stand_at(accounts, indexes.as_slice(), touched.as_slice())
+    let instruction = batch.at(place);
+    if indexes.is_empty() {
+        let touched = instruction.touches(setting.directory);
+        return stand_at(accounts, indexes.as_slice(), touched.as_slice());
+    }
+    let movement = instruction.act.movement();
+    if !is_known_if_any(setting.directory, movement.also_known()) {
+        return false;
+    }
+    let parties = movement.parties();
+    stand_at(accounts, indexes.as_slice(), parties.as_slice())
+}
+
+// Whether the directory has the account, if there is one.
+fn is_known_if_any(directory: &Directory, wanted: Option<AccountNo>) -> bool
+    ensures { result ≡ option_map_or (is_known directory.now) wanted true }
+{
+    match wanted {
+        Some(number) => directory.find(number).is_some(),
+        None => true,
+    }
 }
 
 // Whether accounts with these numbers stand at these indexes.

@@ -1,35 +1,68 @@
 //! Which instructions belong together: those that touch a common account, directly or over others. Each place points at
 //! one of its bundle that is not later, and the first place of a bundle at itself; pointers are shortened on the way.
 
-use crate::advice::lookups::Touch;
 use crate::advice::numbers::{number_or_zero, put_number};
+use crate::instruction::Indexes;
 use reg_base::NoMemory;
 use std::alloc::Global;
 
-/// For each of so many places, counted from 1, the first place of its bundle: its label. The number at index 0, where
-/// there is no place, is 0.
-///
-/// # Errors
-/// `NoMemory` if memory ran out.
-pub(crate) fn find_labels(
-    alloc: Global,
-    places: u32,
-    accounts: u32,
-    touches: &[Touch],
-) -> Result<Vec<u32>, NoMemory> {
-    let mut pointers = alone(alloc, places)?;
-    // The first place that touches each account, or 0.
-    let mut touchers = vec![in alloc; 0u32; accounts as usize]?;
-    for touch in touches {
-        let first = number_or_zero(&touchers, touch.account);
-        if first == 0 {
-            put_number(&mut touchers, touch.account, touch.place);
-        } else {
-            unite(&mut pointers, first, touch.place);
+/// Which bundle each place and each account belongs to.
+#[derive(Drop)]
+pub(crate) struct Labels {
+    /// For each place, counted from 1, the first place of its bundle: its label. The number at index 0, where there is
+    /// no place, is 0.
+    pub(crate) of_places: Vec<u32>,
+    /// For each account the first place that touches it, or 0.
+    pub(crate) touchers: Vec<u32>,
+    /// The accounts that places touch, each once.
+    pub(crate) touched: Vec<u32>,
+}
+
+impl Labels {
+    /// Those of so many places, for each of which there are the indexes of the accounts that it touches, run by run.
+    ///
+    /// # Errors
+    /// `NoMemory` if memory ran out.
+    pub(crate) fn of(
+        alloc: Global,
+        places: u32,
+        accounts: u32,
+        runs: &[Vec<Indexes>],
+    ) -> Result<Labels, NoMemory> {
+        let mut labels = Labels {
+            of_places: alone(alloc, places)?,
+            touchers: vec![in alloc; 0u32; accounts as usize]?,
+            touched: Vec::with_capacity(alloc, (places as usize).saturating_mul(2))?,
+        };
+        let mut place: u32 = 0;
+        for run in runs {
+            for own in run {
+                place = place.saturating_add(1);
+                labels.touch_all(place, own)?;
+            }
         }
+        shorten_all(&mut labels.of_places);
+        Ok(labels)
     }
-    shorten_all(&mut pointers);
-    Ok(pointers)
+
+    /// The label of an account's bundle, or 0 if no place touches it.
+    pub(crate) fn of_account(&self, account: u32) -> u32 {
+        number_or_zero(&self.of_places, number_or_zero(&self.touchers, account))
+    }
+
+    // Makes the bundle of a place one with those of its accounts.
+    fn touch_all(&mut self, place: u32, own: &Indexes) -> Result<(), NoMemory> {
+        for account in own.as_slice() {
+            let first = number_or_zero(&self.touchers, *account);
+            if first == 0 {
+                put_number(&mut self.touchers, *account, place);
+                self.touched.push(*account)?;
+            } else {
+                unite(&mut self.of_places, first, place);
+            }
+        }
+        Ok(())
+    }
 }
 
 // Pointers of the places 0 to this one, each at itself.

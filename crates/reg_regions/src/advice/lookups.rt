@@ -15,17 +15,8 @@ use std::alloc::Global;
 use std::thread;
 use std::thread::Threads;
 
-/// An instruction touches an account.
-#[derive(Clone, Copy, Drop)]
-pub(crate) struct Touch {
-    /// The place of the instruction in its batch, counted from 1.
-    pub(crate) place: u32,
-    /// The account, counted from 0 through all lists.
-    pub(crate) account: u32,
-}
-
-/// For each instruction the indexes of the accounts that it touches. They are looked up in so many runs, each but the
-/// last by a thread of its own where one can be started.
+/// For each instruction the indexes of the accounts that it touches, in so many runs, of which the last comes first. Each
+/// but the last is looked up by a thread of its own where one can be started.
 ///
 /// # Errors
 /// `NoMemory` if memory ran out.
@@ -36,11 +27,12 @@ pub(crate) fn find_by_runs<R: Threads + Sync>(
     layout: &Layout,
     instructions: &[Instruction],
     runs: u32,
-) -> Result<Vec<Indexes>, NoMemory>
+) -> Result<Vec<Vec<Indexes>>, NoMemory>
     requires { IsRising (numbers (joined_lists lists.now)) }
 {
     if runs < 2 {
-        return find_indexes(alloc, lists, layout, instructions);
+        let last = find_indexes(alloc, lists, layout, instructions)?;
+        return Ok(vec![in alloc; last]?);
     }
     let size = instructions.len() / runs as usize;
     let (run, rest) = instructions.split_at(size.min(instructions.len()));
@@ -49,12 +41,12 @@ pub(crate) fn find_by_runs<R: Threads + Sync>(
         move || -> Result<Vec<Indexes>, NoMemory>
             requires { IsRising (numbers (joined_lists lists.now)) }
         { find_indexes(alloc, lists, layout, run) },
-        move || -> Result<Vec<Indexes>, NoMemory>
+        move || -> Result<Vec<Vec<Indexes>>, NoMemory>
             requires { IsSync R.row × IsRising (numbers (joined_lists lists.now)) × (2 ≤ runs) }
         { find_by_runs(rt, alloc, lists, layout, rest, runs - 1) },
     );
-    let (mut all, mut later) = (front?, back?);
-    all.append(&mut later)?;
+    let (run, mut all) = (front?, back?);
+    all.push(run)?;
     Ok(all)
 }
 
@@ -114,28 +106,4 @@ fn push_index(indexes: &mut Indexes, index: u32) {
     if !indexes.is_full() {
         indexes.push(index);
     }
-}
-
-/// Each place with each account that it touches.
-///
-/// # Errors
-/// `NoMemory` if memory ran out.
-pub(crate) fn find_touches(alloc: Global, indexes: &[Indexes]) -> Result<Vec<Touch>, NoMemory> {
-    let mut touches = Vec::with_capacity(alloc, indexes.len().saturating_mul(2))?;
-    let mut place: u32 = 0;
-    for own in indexes {
-        place = place.saturating_add(1);
-        push_touches(&mut touches, place, own)?;
-    }
-    Ok(touches)
-}
-
-fn push_touches(touches: &mut Vec<Touch>, place: u32, own: &Indexes) -> Result<(), NoMemory> {
-    for index in own.as_slice() {
-        touches.push(Touch {
-            place,
-            account: *index,
-        })?;
-    }
-    Ok(())
 }

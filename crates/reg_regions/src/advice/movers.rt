@@ -1,6 +1,6 @@
 //! Which accounts are swapped, so that each stands in the region of its bundle.
 
-use crate::advice::bundles::Bundles;
+use crate::advice::homes::Homes;
 use crate::advice::layout::Layout;
 use crate::advice::numbers::{index_at, number_or_zero, put_index, put_number, short};
 use crate::dealing::Swap;
@@ -14,8 +14,8 @@ struct Mover {
     account: u32,
     // Where it stands now.
     stands: u32,
-    // The index of the one behind it with the same way.
-    next: Option<u32>,
+    // The one behind it with the same way: see `index_at`.
+    next: u32,
 }
 
 // Whether accounts were brought to the regions of their bundles, or found nothing free there.
@@ -33,8 +33,8 @@ pub(crate) struct Movers {
     /// The swaps so far.
     pub(crate) swaps: Vec<Swap>,
     waiting: Vec<Mover>,
-    // For each region and each other one the index of the first mover from the one to the other.
-    heads: Vec<Option<u32>>,
+    // For each region and each other one the first mover from the one to the other: see `index_at`.
+    heads: Vec<u32>,
     // From which index on each region may have an account that no instruction touches.
     free: Vec<u32>,
     regions: u32,
@@ -48,14 +48,16 @@ impl Movers {
     pub(crate) fn of(
         alloc: Global,
         layout: &Layout,
-        bundles: Bundles,
-        homes: &[u32],
+        touchers: Vec<u32>,
+        labels: &[u32],
+        members: &[u32],
+        homes: &Homes,
     ) -> Result<Option<Movers>, NoMemory> {
-        let (members, owners) = bundles.into_members();
-        let mut movers = Movers::new(alloc, layout, owners, members.len())?;
-        for account in &members {
-            // Up to here the list of what stands where has the label of its bundle.
-            let home = number_or_zero(homes, number_or_zero(&movers.stands, *account));
+        let mut movers = Movers::new(alloc, layout, touchers, members.len())?;
+        for account in members {
+            // Up to here the list of what stands where has the first place that touches it.
+            let label = number_or_zero(labels, number_or_zero(&movers.stands, *account));
+            let home = number_or_zero(&homes.regions, label);
             put_index(&mut movers.stands, *account, *account);
             let here = layout.region_of(*account);
             if here != home {
@@ -83,39 +85,35 @@ impl Movers {
             stands,
             swaps: Vec::with_capacity(alloc, movers)?,
             waiting: Vec::with_capacity(alloc, movers)?,
-            heads: vec![in alloc; None; ways as usize]?,
+            heads: vec![in alloc; 0u32; ways as usize]?,
             free,
             regions: layout.regions,
         })
     }
 
-    fn way(&self, here: u32, home: u32) -> usize {
-        here.saturating_mul(self.regions).saturating_add(home) as usize
+    fn way(&self, here: u32, home: u32) -> u32 {
+        here.saturating_mul(self.regions).saturating_add(home)
     }
 
     // Lets what stands at an index of a region wait until something comes for it from another.
     fn wait(&mut self, account: u32, stands: u32, here: u32, home: u32) -> Result<(), NoMemory> {
         let way = self.way(here, home);
-        if way < self.heads.len() {
-            let next = self.heads[way].replace(short(self.waiting.len()));
-            self.waiting.push(Mover {
-                account,
-                stands,
-                next,
-            })?;
-        }
+        let next = number_or_zero(&self.heads, way);
+        put_index(&mut self.heads, way, short(self.waiting.len()));
+        self.waiting.push(Mover {
+            account,
+            stands,
+            next,
+        })?;
         Ok(())
     }
 
     // What waits in a region for another.
     fn take(&mut self, here: u32, home: u32) -> Option<Mover> {
         let way = self.way(here, home);
-        if way >= self.heads.len() {
-            return None;
-        }
-        let first = self.heads[way]?;
+        let first = index_at(&self.heads, way)?;
         let mover = *self.waiting.get(first as usize)?;
-        self.heads[way] = mover.next;
+        put_number(&mut self.heads, way, mover.next);
         Some(mover)
     }
 

@@ -1,40 +1,69 @@
 //! The replies of regions, put into the order of the batch.
 
-ghost use Rattle.std.specs.Prelude.{◌≡◌, ◌≤◌, ◌<◌, [], ◌∷◌, All, IfOk, length};
-ghost use Rattle.reg_regions.specs.Dealing.{put_all};
-ghost use Rattle.reg_regions.specs.Homes.{IsPlaceUpTo};
-ghost use Rattle.reg_regions.specs.Settling.{places_in};
+ghost use Rattle.std.specs.Prelude.{IfOk};
+ghost use Rattle.reg_regions.specs.Dealing.{AreInPlaces, AreLeftOf};
+ghost use Rattle.reg_regions.specs.Lists.{joined_lists};
 
+use crate::advice::numbers::{number_or_zero, put_number, short};
 use crate::instruction::Placed;
-use reg_base::{NoMemory, Refusal};
+use reg_base::NoMemory;
 use reg_rules::Reply;
 use std::alloc::Global;
+use std::vec::IntoIter;
 
-/// Room for so many replies.
-pub(crate) fn replies_for_all(alloc: Global, count: u32) -> Result<Vec<Reply>, NoMemory>
-    ensures { IfOk result (λ slots. length slots.items ≡ count) }
+/// The replies to so many instructions by their places, out of those of regions, of which each has its own by rising
+/// place.
+///
+/// # Errors
+/// `NoMemory` if memory ran out.
+pub(crate) fn in_places(
+    alloc: Global,
+    count: u32,
+    regions: Vec<Vec<Placed>>,
+) -> Result<Vec<Reply>, NoMemory>
+    ensures { IfOk result (λ replies. AreInPlaces count (joined_lists regions.items) replies.items) }
 {
-    let mut slots = Vec::with_capacity(alloc, count as usize)?;
-    for _slot in 0..count {
-        slots.push(Reply::Refused(Refusal::UnknownAccount))?;
+    let homes = homes_of(alloc, count, &regions)?;
+    let mut left = from_the_first(alloc, regions)?;
+    let mut replies = Vec::with_capacity(alloc, count as usize)?;
+    for before in 0..count {
+        let home = number_or_zero(&homes, before) as usize;
+        if home >= left.len() {
+            return Err(NoMemory);
+        }
+        let Some(placed) = left[home].next() else {
+            return Err(NoMemory);
+        };
+        // Each place is in one region, and comes there behind those that are lower: so it is this one.
+        if placed.place != before + 1 {
+            return Err(NoMemory);
+        }
+        replies.push(placed.reply)?;
     }
-    Ok(slots)
+    Ok(replies)
 }
 
-/// Puts each reply at its place.
-pub(crate) fn put_replies(slots: &mut Vec<Reply>, replies: Vec<Placed>)
-    requires { All (IsPlaceUpTo (length slots.old.items)) (places_in replies.items) }
-    ensures { slots.new.items ≡ put_all replies.items slots.old.items }
-{
-    for placed in replies {
-        put_reply(slots, placed);
+// Which region has each of so many places.
+fn homes_of(alloc: Global, count: u32, regions: &[Vec<Placed>]) -> Result<Vec<u32>, NoMemory> {
+    let mut homes = vec![in alloc; 0u32; count as usize]?;
+    for (home, region) in regions.iter().enumerate() {
+        for placed in region {
+            put_number(&mut homes, placed.place.saturating_sub(1), short(home));
+        }
     }
+    Ok(homes)
 }
 
-fn put_reply(slots: &mut Vec<Reply>, placed: Placed)
-    requires { IsPlaceUpTo (length slots.old.items) placed.place }
-    ensures { slots.new.items ≡ put_all (placed ∷ []) slots.old.items }
+// The replies of each region, to be taken from the first on.
+fn from_the_first(
+    alloc: Global,
+    regions: Vec<Vec<Placed>>,
+) -> Result<Vec<IntoIter<Placed>>, NoMemory>
+    ensures { IfOk result (λ left. AreLeftOf (joined_lists regions.items) left.items) }
 {
-    let Placed { place, reply } = placed;
-    slots[place as usize - 1] = reply;
+    let mut left = Vec::with_capacity(alloc, regions.len())?;
+    for region in regions {
+        left.push(region.into_iter())?;
+    }
+    Ok(left)
 }

@@ -41,10 +41,24 @@ pub(crate) trait Notes: Drop {
     fn number(&self) -> u32
         ensures { result ≡ worker self.now };
 
+    /// Notes that the places from here on are those of another region, and whether it came from another one's deque.
+    fn own(&mut self, stolen: bool) -> Result<(), NoMemory>
+        ensures worker { worker self.new ≡ worker self.old }
+        ensures same { places self.new ≡ places self.old };
+
     /// Notes a place behind the others, if places are kept.
     fn note(&mut self, carried: Carried) -> Result<(), NoMemory>
         ensures worker { worker self.new ≡ worker self.old }
         ensures noted { OnOk result (places self.new ≡ places self.old ++ kept keeps (carried.place ∷ [])) };
+}
+
+/// A region that a worker owned.
+#[derive(Clone, Copy, Debug, PartialEq, Eq, Drop)]
+pub struct OwnedRegion {
+    /// How many places of the worker's shift are those of regions that it owned before.
+    pub before: usize,
+    /// Whether it came from another worker's deque.
+    pub stolen: bool,
 }
 
 /// What a worker carried out. A place comes into it by `note` alone, which takes what only `carry_out` makes: so a
@@ -54,6 +68,7 @@ pub(crate) trait Notes: Drop {
 pub struct WorkShift {
     worker: u32,
     places: Vec<u32>,
+    regions: Vec<OwnedRegion>,
 }
 
 impl WorkShift {
@@ -70,6 +85,13 @@ impl WorkShift {
     {
         &self.places
     }
+
+    /// The regions that the worker owned, in the order in which it took them. Some may have no instructions.
+    pub fn regions(&self) -> &[OwnedRegion]
+        ensures { result.now ≡ self.now.regions.items }
+    {
+        &self.regions
+    }
 }
 
 impl Notes for WorkShift {
@@ -85,11 +107,18 @@ impl Notes for WorkShift {
         WorkShift {
             worker: number,
             places: Vec::new(alloc),
+            regions: Vec::new(alloc),
         }
     }
 
     fn number(&self) -> u32 {
         self.worker
+    }
+
+    fn own(&mut self, stolen: bool) -> Result<(), NoMemory> {
+        let before = self.places.len();
+        self.regions.push(OwnedRegion { before, stolen })?;
+        Ok(())
     }
 
     fn note(&mut self, carried: Carried) -> Result<(), NoMemory> {
@@ -119,6 +148,10 @@ impl Notes for NoShift {
 
     fn number(&self) -> u32 {
         self.worker
+    }
+
+    fn own(&mut self, _stolen: bool) -> Result<(), NoMemory> {
+        Ok(())
     }
 
     fn note(&mut self, _carried: Carried) -> Result<(), NoMemory> {
@@ -164,6 +197,7 @@ pub(crate) fn settle_gated<N: Notes, G: PlaceGate>(
             notes,
         )?;
         push_reply(&mut replies, *place, reply)?;
+        gate.leave(notes.number(), *place);
     }
     Ok(replies)
 }

@@ -37,22 +37,32 @@ pub(crate) struct Taker<T: Numbered, S: Sharing> {
     pub(crate) ghost deques_are: { deques_of_pass pass ≡ S.deques },
 }
 
+/// A task that a worker took, and whether from another one's deque.
+#[derive(Drop)]
+pub(crate) struct Taken<T> {
+    pub(crate) task: T,
+    pub(crate) stolen: bool,
+}
+
 impl<T: Numbered + Drop, S: Sharing> Taker<T, S> {
     ghost use Rattle.reg_regions.specs.Taking.{TakesOne, taker_view};
 
     /// The first task of the worker's own deque, or else of another one's. `None` if it found none.
-    pub(crate) fn take(&mut self, yard: &Yard<T>) -> Option<T>
+    pub(crate) fn take(&mut self, yard: &Yard<T>) -> Option<Taken<T>>
         requires yard { deques yard.now ≡ S.deques }
         ensures worker { worker_of self.new.pass ≡ worker_of self.old.pass }
-        ensures some { IfSome result
-            (λ t. TakesOne (worker_of self.old.pass) (taker_view self.old) (T.number t) (taker_view self.new)) }
+        ensures some { IfSome result (λ t. TakesOne (worker_of self.old.pass) (taker_view self.old) t.stolen
+            (T.number t.task) (taker_view self.new)) }
         ensures none { IfNone result (taker_view self.new ≡ taker_view self.old) }
     {
-        let own = self.owner.take_own();
-        if own.is_some() {
-            return own;
+        if let Some(task) = self.owner.take_own() {
+            return Some(Taken {
+                task,
+                stolen: false,
+            });
         }
-        steal(yard, &mut self.pass)
+        let task = steal(yard, &mut self.pass)?;
+        Some(Taken { task, stolen: true })
     }
 }
 

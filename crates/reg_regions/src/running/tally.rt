@@ -1,24 +1,22 @@
 //! What all workers did is put together.
 
-ghost use Rattle.std.specs.Prelude.{◌≡◌, ◌≤◌, ◌+◌, ◌++◌, [], ℕ, All, map, length, vec_len, IfOk, OnOk, IsPermutation};
+ghost use Rattle.std.specs.Prelude.{◌≡◌, ◌+◌, ◌++◌, [], ℕ, List, All, Contains, map, length, vec_len, IfOk, OnOk};
 ghost use Rattle.std.specs.List.{flat_map};
-ghost use Rattle.std.specs.List.Sorted.{IsNonDecreasingBy};
+ghost use Rattle.reg_base.specs.Rising.{count_up};
 ghost use Rattle.reg_claim.specs.Seats.{known, seat_table, table_id, places};
 ghost use Rattle.reg_facts.specs.Counting.{times, once};
-ghost use Rattle.reg_regions.specs.Dealing.{put_all};
-ghost use Rattle.reg_regions.specs.Homes.{IsPlaceUpTo};
+ghost use Rattle.reg_regions.specs.declared.running.settled_list.SettledList.{SettledList};
 ghost use Rattle.reg_regions.specs.Settling.{kept};
-ghost use Rattle.reg_regions.specs.Stealing.{numbers_of, settled_places, times_noted};
+ghost use Rattle.reg_regions.specs.Stealing.{numbers_of, settled_places, times_noted, AreAmong};
 
-use crate::running::Outcome;
-use crate::running::replies::put_replies;
+use crate::instruction::Placed;
 use crate::running::settled_list::SettledList;
 use crate::running::shift::Notes;
 use crate::running::taker::Sharing;
 use crate::running::worker::BusyWorker;
+use reg_account::Account;
 use reg_base::NoMemory;
 use reg_claim::{ClaimTable, Seat};
-use reg_rules::Reply;
 use std::alloc::Global;
 
 /// What all workers did.
@@ -85,42 +83,76 @@ fn append(settled: &mut Vec<SettledList>, own: Vec<SettledList>) -> Result<(), N
     Ok(())
 }
 
-/// Settled regions in the order of their numbers.
-pub(crate) fn in_order(settled: Vec<SettledList>) -> Vec<SettledList>
-    ensures same { IsPermutation settled.items result.items }
-    ensures sorted { IsNonDecreasingBy (λ s. s.number) result.items }
-{
-    let mut settled = settled;
-    put_in_order(&mut settled);
-    settled
-}
-
-fn put_in_order(settled: &mut [SettledList])
-    ensures same { IsPermutation settled.old settled.new }
-    ensures sorted { IsNonDecreasingBy (λ s. s.number) settled.new }
-{
-    settled.sort_unstable_by_key(|one| one.number);
-}
-
-/// The accounts of settled regions, one region after another, their replies, each put at its place among these, and
-/// these notes.
+/// Settled regions, each where it belongs: with the numbers from 1 to this one.
 ///
 /// # Errors
 /// `NoMemory` if memory ran out.
-pub(crate) fn take_apart<N: Notes>(
+pub(crate) fn in_order(
+    alloc: Global,
+    count: u32,
+    settled: Vec<SettledList>,
+) -> Result<Vec<SettledList>, NoMemory>
+    ensures numbers { IfOk result (λ regions. numbers_of regions.items ≡ count_up 1 count) }
+    ensures same { IfOk result (λ regions. All (Contains settled.items) regions.items) }
+{
+    let mut places = put_in_places(alloc, count, settled)?;
+    let mut regions = Vec::with_capacity(alloc, count as usize)?;
+    for before in 0..count {
+        let Some(one) = places[before as usize].take() else {
+            return Err(NoMemory);
+        };
+        // Each region was settled, and stands where its number says: so it is this one.
+        if one.number != before + 1 {
+            return Err(NoMemory);
+        }
+        regions.push(one)?;
+    }
+    Ok(regions)
+}
+
+// Puts settled regions where they belong among so many, and drops one that belongs nowhere.
+fn put_in_places(
+    alloc: Global,
+    count: u32,
+    settled: Vec<SettledList>,
+) -> Result<Vec<Option<SettledList>>, NoMemory>
+    ensures size { IfOk result (λ places. length places.items ≡ count) }
+    ensures same { IfOk result (λ places. AreAmong settled.items places.items) }
+{
+    let mut places = Vec::with_capacity(alloc, count as usize)?;
+    for _place in 0..count {
+        places.push(None)?;
+    }
+    for one in settled {
+        put_in_place(&mut places, one);
+    }
+    Ok(places)
+}
+
+fn put_in_place(places: &mut Vec<Option<SettledList>>, one: SettledList)
+    ensures size { length places.new.items ≡ length places.old.items }
+    ensures among { (settled : List SettledList) → Contains settled one → AreAmong settled places.old.items
+        → AreAmong settled places.new.items }
+{
+    let place = (one.number as usize).saturating_sub(1);
+    if place < places.len() {
+        places[place] = Some(one);
+    }
+}
+
+/// The accounts of settled regions and their replies, one region after another.
+///
+/// # Errors
+/// `NoMemory` if memory ran out.
+pub(crate) fn take_apart(
     alloc: Global,
     settled: Vec<SettledList>,
-    notes: Vec<N>,
-    slots: Vec<Reply>,
-) -> Result<Outcome<N>, NoMemory>
-    requires { All (IsPlaceUpTo (length slots.items)) (settled_places settled.items) }
-    ensures lists { IfOk result (λ all. all.lists.items ≡ map (λ s. s.accounts) settled.items) }
-    ensures replies { IfOk result
-        (λ all. all.replies.items ≡ put_all (flat_map (λ s. s.replies.items) settled.items) slots.items) }
-    ensures notes { IfOk result (λ all. all.notes ≡ notes) }
+) -> Result<(Vec<Vec<Account>>, Vec<Vec<Placed>>), NoMemory>
+    ensures lists { IfOk result (λ parts. parts.0.items ≡ map (λ s. s.accounts) settled.items) }
+    ensures replies { IfOk result (λ parts. parts.1.items ≡ map (λ s. s.replies) settled.items) }
 {
     let mut lists = Vec::with_capacity(alloc, settled.len())?;
-    let mut replies = slots;
+    let mut replies = Vec::with_capacity(alloc, settled.len())?;
     for one in settled {
         let SettledList {
             accounts,
@@ -128,11 +160,7 @@ pub(crate) fn take_apart<N: Notes>(
             ..
         } = one;
         lists.push(accounts)?;
-        put_replies(&mut replies, own);
+        replies.push(own)?;
     }
-    Ok(Outcome {
-        lists,
-        replies,
-        notes,
-    })
+    Ok((lists, replies))
 }

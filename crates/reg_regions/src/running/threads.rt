@@ -3,7 +3,8 @@
 ghost use Rattle.std.specs.Prelude.{◌≡◌, Ok, map, length, All, IfOk};
 ghost use Rattle.reg_claim.specs.Seats.{table_id, places};
 ghost use Rattle.reg_deques.specs.Yards.{deques, worker_of};
-ghost use Rattle.reg_regions.specs.Stealing.{IsGround, AreSettled};
+ghost use Rattle.reg_regions.specs.Stealing.{IsGround, AreSettled, numbers_of};
+ghost use Rattle.reg_regions.specs.Taking.{EachTook, WereTaken, taker_view};
 
 use crate::gate::PlaceGate;
 use crate::running::region::{Cutting, ListRegion};
@@ -46,6 +47,9 @@ pub(crate) fn run_all<
         (λ all. map (λ w. N.worker w.notes) all.items ≡ map (λ w. worker_of w.taker.pass) workers.items) }
     ensures settled { IfOk result
         (λ all. All (λ w. AreSettled setting.now batch.now C.openings C.deals w.settled.items) all.items) }
+    ensures taken { IfOk result
+        (λ all. EachTook (map (λ w. (worker_of w.taker.pass, taker_view w.taker)) workers.items)
+        (map (λ w. numbers_of w.settled.items) all.items)) }
 {
     let ended = thread::map_vec(
         rt,
@@ -56,10 +60,9 @@ pub(crate) fn run_all<
             ensures number { IfOk result (λ w. N.worker w.notes ≡ worker_of worker.taker.pass) }
             ensures settled { IfOk result
                 (λ w. AreSettled setting.entry.now batch.entry.now C.openings C.deals w.settled.items) }
-        {
-            let (busy, _taker) = work(alloc, setting, batch, table, yard, gate, worker)?;
-            Ok(busy)
-        },
+            ensures taken { IfOk result (λ w. WereTaken (worker_of worker.taker.pass) (taker_view worker.taker)
+                (numbers_of w.settled.items)) }
+        { work(alloc, setting, batch, table, yard, gate, worker) },
     )?;
     let all = all_ended(alloc, ended)?;
     Ok(all)

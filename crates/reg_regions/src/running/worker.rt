@@ -1,6 +1,6 @@
 //! A worker that takes regions from deques.
 
-ghost use Rattle.std.specs.Prelude.{◌≡◌, ◌⊎◌, [], ◌∷◌, ◌++◌, length, IfOk};
+ghost use Rattle.std.specs.Prelude.{◌≡◌, [], ◌∷◌, ◌++◌, length, IfOk};
 ghost use Rattle.reg_claim.specs.Seats.{known, seat_table, table_id, places, IsToFinish};
 ghost use Rattle.reg_deques.specs.Yards.{deques, worker_of};
 ghost use Rattle.reg_regions.specs.Settling.{kept, places_in};
@@ -11,7 +11,7 @@ use crate::gate::PlaceGate;
 use crate::running::region::{Cutting, ListRegion};
 use crate::running::settled_list::SettledList;
 use crate::running::shift::{Notes, settle_gated};
-use crate::running::taker::{Sharing, Taker};
+use crate::running::taker::{Sharing, Taken, Taker};
 use reg_base::{Batch, NoMemory};
 use reg_claim::{ClaimTable, Seat};
 use reg_deques::{Numbered, Yard};
@@ -43,7 +43,7 @@ pub(crate) struct BusyWorker<S: Sharing, N: Notes> {
 }
 
 /// Runs regions of its own deque, and when there are none, regions that it steals from the others. It leaves when it
-/// finds none: no region appears later. It settles none that it did not take, and none more often than that.
+/// finds none: no region appears later. It settles those that it took, in this order, and no others.
 ///
 /// # Errors
 /// `NoMemory` if memory ran out.
@@ -55,24 +55,24 @@ pub(crate) fn work<C: Cutting, S: Sharing, N: Notes, G: PlaceGate>(
     yard: &Yard<ListRegion<C>>,
     gate: &G,
     worker: ReadyWorker<ListRegion<C>, S>,
-) -> Result<(BusyWorker<S, N>, Taker<ListRegion<C>, S>), NoMemory>
+) -> Result<BusyWorker<S, N>, NoMemory>
     requires ground { IsGround setting.now batch.now C.openings C.deals }
     requires table { (table_id table.now ≡ S.table) × (places table.now ≡ length C.openings) }
     requires yard { deques yard.now ≡ S.deques }
-    ensures number { IfOk result (λ ended. N.worker ended.0.notes ≡ worker_of worker.taker.pass) }
+    ensures number { IfOk result (λ ended. N.worker ended.notes ≡ worker_of worker.taker.pass) }
     ensures settled { IfOk result
-        (λ ended. AreSettled setting.now batch.now C.openings C.deals ended.0.settled.items) }
+        (λ ended. AreSettled setting.now batch.now C.openings C.deals ended.settled.items) }
     ensures taken { IfOk result (λ ended. WereTaken (worker_of worker.taker.pass) (taker_view worker.taker)
-        (numbers_of ended.0.settled.items) (taker_view ended.1)) }
+        (numbers_of ended.settled.items)) }
 {
     let (mut busy, mut taker) = begin(alloc, worker);
     for _turn in 0..u32::MAX {
-        let Some(region) = taker.take(yard) else {
-            return Ok((busy, taker));
+        let Some(taken) = taker.take(yard) else {
+            return Ok(busy);
         };
-        busy = run(alloc, setting, batch, table, gate, busy, region)?;
+        busy = run(alloc, setting, batch, table, gate, busy, taken)?;
     }
-    Ok((busy, taker))
+    Ok(busy)
 }
 
 // A worker begins: it settled nothing, and has noted nothing.
@@ -94,7 +94,7 @@ fn begin<T: Numbered + Drop, S: Sharing, N: Notes>(
     (busy, taker)
 }
 
-// Claims a region, settles it, and counts it as finished. If it is claimed already, it is not settled.
+// Claims a region, settles it, and counts it as finished.
 fn run<C: Cutting, S: Sharing, N: Notes, G: PlaceGate>(
     alloc: Global,
     setting: &Setting,
@@ -102,21 +102,21 @@ fn run<C: Cutting, S: Sharing, N: Notes, G: PlaceGate>(
     table: &ClaimTable,
     gate: &G,
     busy: BusyWorker<S, N>,
-    region: ListRegion<C>,
+    taken: Taken<ListRegion<C>>,
 ) -> Result<BusyWorker<S, N>, NoMemory>
     requires ground { IsGround setting.now batch.now C.openings C.deals }
     requires table { (table_id table.now ≡ S.table) × (places table.now ≡ length C.openings) }
     requires before { AreSettled setting.now batch.now C.openings C.deals busy.settled.items }
     ensures worker { IfOk result (λ next. N.worker next.notes ≡ N.worker busy.notes) }
     ensures numbers { IfOk result
-        (λ next. (numbers_of next.settled.items ≡ numbers_of busy.settled.items)
-        ⊎ (numbers_of next.settled.items ≡ numbers_of busy.settled.items ++ region.number ∷ [])) }
+        (λ next. numbers_of next.settled.items ≡ numbers_of busy.settled.items ++ taken.task.number ∷ []) }
     ensures settled { IfOk result (λ next. AreSettled setting.now batch.now C.openings C.deals next.settled.items) }
 {
     let mut busy = busy;
-    let number = region.number;
+    let number = taken.task.number;
+    // A deque gives none twice.
     if !table.claim(&mut busy.seat, number) {
-        return Ok(busy);
+        return Err(NoMemory);
     }
     let BusyWorker {
         mut notes,
@@ -124,7 +124,8 @@ fn run<C: Cutting, S: Sharing, N: Notes, G: PlaceGate>(
         mut settled,
         ..
     } = busy;
-    let one = run_claimed(alloc, setting, batch, gate, &seat, &mut notes, region)?;
+    notes.own(taken.stolen)?;
+    let one = run_claimed(alloc, setting, batch, gate, &seat, &mut notes, taken.task)?;
     settled.reserve(1)?;
     table.finish(&mut seat, one.number);
     settled.push_reserved(one);

@@ -3,6 +3,7 @@ use Rattle.std.proofs.lemmas.Grind.{common_steps}
 use Rattle.std.specs.Prelude.{All}
 use Rattle.reg_rules.specs.Laws.{IsReady}
 use Rattle.reg_rules.specs.State.{State}
+use Rattle.reg_book.specs.Book.{directory_of}
 use Rattle.reg_regions.specs.Dealing.{AreSettledOnce}
 use Rattle.reg_regions.specs.Lists.{joined_lists}
 use Rattle.reg_regions.specs.Swaps.{IsSwapWithin, exchanged}
@@ -11,6 +12,10 @@ use Rattle.reg_regions.proofs.Exchanged.{exchanged-same, length-exchanged}
 use Rattle.reg_regions.proofs.Pieces.{ready-permuted}
 use Rattle.reg_regions.proofs.Sized.{same-size}
 use Rattle.reg_regions.proofs.settlement.settle_by_advice.Goals as goal
+
+pub admit-found-requires-clause-directory : goal.admit-found-requires-clause-directory
+admit-found-requires-clause-directory g c κs within =
+    c.requires.directory ∙ ap directory_of (sym (c.in_ok-regions.ensures ∙ c.in_ok-cut.ensures))
 
 pub settle_lists-requires-clause-ready : goal.settle_lists-requires-clause-ready
 settle_lists-requires-clause-ready g c κs within =

@@ -1,7 +1,8 @@
-use Rattle.std.proofs.Common.{◌≡◌, Ok, length, get_or, sym, ap, ◌∙◌, arith}
+use Rattle.std.proofs.Common.{◌≡◌, ℕ, List, Ok, length, get_or, sym, ap, ◌∙◌, arith}
 use Rattle.reg_deques.specs.Yards.{worker_of}
-use Rattle.reg_regions.specs.Stealing.{AreSettled}
-use Rattle.reg_regions.proofs.Ended.{as-many, answered, same-at}
+use Rattle.reg_regions.specs.Stealing.{AreSettled, numbers_of}
+use Rattle.reg_regions.specs.Taking.{TakerView, WereTaken, taker_view}
+use Rattle.reg_regions.proofs.Ended.{as-many, answered, each-pair, same-at}
 use Rattle.reg_regions.proofs.running.threads.run_all.Goals as goal
 
 pub returns : goal.returns
@@ -26,5 +27,15 @@ returns g c =
       settled = λ i w lt.
           let k = (each i (Ok w) (omega (arith, lt, len))).1 in
           answered ws rs (λ v. AreSettled c.args.setting.now c.args.batch.now g.C.Cutting.openings g.C.Cutting.deals
-          v.settled.items) is i w lt k.call.met.1;
+          v.settled.items) is i w lt k.call.met.1.0;
+      taken = each-pair jobs ws (λ w. (worker_of w.taker.pass, taker_view w.taker)) (λ w. numbers_of w.settled.items)
+          (λ (b : ℕ × TakerView) (numbers : List ℕ). WereTaken b.0 b.1 numbers) (λ i w lt.
+          let k = (each i (Ok w) (omega (arith, lt, len))).1 in (
+            k.job,
+            (
+              k.job_is,
+              answered ws rs (λ v. WereTaken (worker_of k.job.taker.pass) (taker_view k.job.taker)
+                  (numbers_of v.settled.items)) is i w lt k.call.met.1.1,
+            ),
+          ));
     }
