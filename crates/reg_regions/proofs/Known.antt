@@ -1,5 +1,6 @@
 -- Accounts that stand in a book are known, also where they were swapped, and so are those of an instruction.
-use Rattle.std.proofs.Common.{◌≡◌, ℕ, ◌<◌, ◌&&◌, Bool, true, false, cond, eqb, not, List, [], ◌∷◌, ◌++◌, filter, length, map}
+use Rattle.std.proofs.Common.{◌≡◌, ℕ, ◌<◌, ◌&&◌, Bool, true, false, cond, eqb, not, List, [], ◌∷◌, ◌++◌, filter}
+use Rattle.std.proofs.Common.{length, map}
 use Rattle.std.proofs.Common.{get_or, refl, sym, ap, subst, ◌∙◌, Vec, Global}
 use Rattle.std.specs.Prelude.{All, IsPermutation, slice_index}
 use Rattle.std.specs.List.{AllByRecursion, list_all}

@@ -15,8 +15,8 @@ use std::alloc::Global;
 use std::thread;
 use std::thread::Threads;
 
-/// For each instruction the indexes of the accounts that it touches, in so many runs, of which the last comes first. Each
-/// but the last is looked up by a thread of its own where one can be started.
+/// For each instruction the indexes of the accounts that it touches, in so many runs, of which the last comes first.
+/// Each but the last is looked up by a thread of its own where one can be started.
 ///
 /// # Errors
 /// `NoMemory` if memory ran out.

@@ -23,7 +23,8 @@ returns c truth =
     ∙ ap (λ o. option_map_or (is_known inside) o true) (sym c.also_known.ensures) ∙ sym c.is_known_if_any.ensures
     ∙ c.if-not-is_known_if_any.false in
     let other : option_map_or (is_known d) (also_known act) true ≡ true =
-    subst (λ (k : Setting). option_map_or (is_known k.directory) (also_known act) true ≡ true) c.setting.view_is asked in
+    subst (λ (k : Setting). option_map_or (is_known k.directory) (also_known act) true ≡ true) c.setting.view_is
+    asked in
     let same : c.as_slice-3.result.now ≡ each_once (parties act) = c.as_slice-3.ensures.value
     ∙ c.parties-parties.ensures ∙ ap (λ (x : Movement). each_once (parties_of x)) m in
     let own : c.as_slice-2.result.now ≡ indexes = c.as_slice-2.ensures.value in

@@ -21,11 +21,13 @@ loop-before-preserved c =
     let told = joined_lists c.args.regions.items in
     let left = c.loop-before.left.items in
     let region = c.index_mut.result.now in
-    let own = subst (All (Contains told)) (ap (λ (r : IntoIter Placed Global). r.rest.items) (sym c.index_mut.ensures.value))
+    let own = subst (All (Contains told))
+    (ap (λ (r : IntoIter Placed Global). r.rest.items) (sym c.index_mut.ensures.value))
     (i.left c.number_or_zero-home.result region (omega arith)) in
     let both = subst (All (Contains told)) c.in-Some.ensures.items own in
     record {
-      left = All-set (λ (r : IntoIter Placed Global). All (Contains told) r.rest.items) left c.number_or_zero-home.result c.next.new.self
+      left = All-set (λ (r : IntoIter Placed Global). All (Contains told) r.rest.items) left
+          c.number_or_zero-home.result c.next.new.self
           (All-tail (Contains told) c.in-Some.placed c.next.new.self.rest.items both) i.left;
       so_far = subst (AreInPlaces (c.loop-before.before + 1) told) (sym c.in_ok-push.ensures.items)
           (more-in_places c.loop-before.before told c.loop-before.replies.items c.in-Some.placed i.so_far
