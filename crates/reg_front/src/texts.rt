@@ -54,7 +54,7 @@ pub(crate) struct Used {
 }
 
 /// The text of a command for a day, made by so many threads; by workers, if these settle it. `bytes` are no longer
-/// needed: a report by one worker and a text of figures take their memory, and for another text it is given back before.
+/// needed: a report by one worker and a text of figures take their memory. For another text it is given back before.
 ///
 /// # Errors
 /// `Workers` if the number of workers is not 1 to 8, and `NoAccount` if the account of a statement is not in the book.

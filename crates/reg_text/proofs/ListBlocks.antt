@@ -30,14 +30,16 @@ pub lists-texts : AreTexts AreBlocksOfLists (λ first lists. blocks_text (joined
     (λ (blocks : Blocks). blocks.text)
 lists-texts = record {
   of_run = λ first lists blocks is. is.0;
-  of_both = λ first size lists. sym (blocks_text-append (joined_lists (take size lists)) (joined_lists (drop size lists)))
+  of_both = λ first size lists.
+      sym (blocks_text-append (joined_lists (take size lists)) (joined_lists (drop size lists)))
       ∙ ap blocks_text (sym (joined-run size lists));
   of_none = λ first. refl;
 }
 
 pub add-run_of_lists : (totals : BothTotals) (blocks : Blocks) (all : List AccountValue) (size first : ℕ)
     (others : List (Vec AccountValue Global)) → AreBlocksOfLists first (take size others) blocks
-    → AddUpWith totals all (joined_lists others) → AddUpWith (both_added totals blocks.totals) all (joined_lists (drop size others))
+    → AddUpWith totals all (joined_lists others)
+    → AddUpWith (both_added totals blocks.totals) all (joined_lists (drop size others))
 add-run_of_lists totals blocks all size first others is so_far =
     subst (λ (t : BothTotals). AddUpWith (both_added totals t) all (joined_lists (drop size others))) (sym is.1)
     (add-list totals all (joined_lists (take size others)) (joined_lists (drop size others))
@@ -73,7 +75,8 @@ run-fit start size lists fit =
 pub run-few : (start size : ℕ) (lists : List (Vec AccountValue Global)) → length (joined_lists lists) ≤ MOST_ACCOUNTS
     → length (joined_lists (take size (drop start lists))) ≤ MOST_ACCOUNTS
 run-few start size lists few =
-    let one : length (joined_lists lists) ≡ length (joined_lists (take start lists) ++ joined_lists (drop start lists)) =
+    let one : length (joined_lists lists)
+    ≡ length (joined_lists (take start lists) ++ joined_lists (drop start lists)) =
     ap length (joined-run start lists) in
     let two : length (joined_lists (drop start lists))
     ≡ length (joined_lists (take size (drop start lists)) ++ joined_lists (drop size (drop start lists))) =

@@ -51,7 +51,8 @@ impl<N: Naming> Work<N> {
         closing: Vec<LastParcel<N>>,
     ) -> Result<(), NoMemory>
         ensures done { OnOk result (self.new.done.items ≡ self.old.done.items ++ done.items) }
-        ensures closing { OnOk result (joined_lists self.new.closing.items ≡ joined_lists self.old.closing.items ++ closing.items) }
+        ensures closing { OnOk result
+            (joined_lists self.new.closing.items ≡ joined_lists self.old.closing.items ++ closing.items) }
         ensures shifts { OnOk result
             (self.new.shifts.items ≡ self.old.shifts.items ++ record { worker = worker; ran = ran } ∷ []) }
         ensures workers { OnOk result

@@ -40,7 +40,8 @@ plus-totals-requires g c =
     let items = c.in-Some.ensures.steps.0 ∙ ap (λ (r : Result Blocks NoMemory). r ∷ behind) c.in_ok-blocks.was in
     run-of_lists-has_space c.loop-run.totals c.in_ok-blocks.blocks all whole size c.loop-run.pieces.items behind
     c.requires.fit c.requires.few
-    (subst (IsSpelled AreBlocksOfLists (λ first lists. blocks_text (joined_lists lists)) (λ (blocks : Blocks). blocks.text)
+    (subst (IsSpelled AreBlocksOfLists (λ first lists. blocks_text (joined_lists lists))
+    (λ (blocks : Blocks). blocks.text)
     (λ others. AddUpWith c.loop-run.totals all (joined_lists others)) whole size c.loop-run.pieces.items) items
     c.loop-run.invariant.spelled)
 
@@ -57,7 +58,8 @@ loop-run-preserved g c =
     c.loop-run.invariant.spelled in
     let more = one-piece AreBlocksOfLists (λ first lists. blocks_text (joined_lists lists)) (λ (b : Blocks). b.text)
     lists-texts (λ others. AddUpWith c.loop-run.totals all (joined_lists others))
-    (λ others. AddUpWith c.plus-totals.result all (joined_lists others)) whole size c.loop-run.pieces.items blocks behind
+    (λ others. AddUpWith c.plus-totals.result all (joined_lists others)) whole size c.loop-run.pieces.items blocks
+    behind
     (λ first others is so_far. subst (λ (t : BothTotals). AddUpWith t all (joined_lists (drop size others)))
     (sym c.plus-totals.ensures) (add-run_of_lists c.loop-run.totals blocks all size first others is so_far)) s in
     record { next = record {}; ends = record {}; spelled = rw c.in_ok-push.ensures.items more }
@@ -67,7 +69,8 @@ returns-clause-text g c =
     let all = joined_lists c.args.lists.now in
     let before = text_of_pieces c.args.pieces.now.items in
     (all-pieces AreBlocksOfLists (λ first lists. blocks_text (joined_lists lists)) (λ (b : Blocks). b.text) lists-texts
-    (λ others. AddUpWith c.loop-run.totals all (joined_lists others)) (before ++ blocks_text all) c.lists_of_run-size.result
+    (λ others. AddUpWith c.loop-run.totals all (joined_lists others)) (before ++ blocks_text all)
+    c.lists_of_run-size.result
     c.loop-run.pieces.items c.loop-run.run-iterator.rest.items (sym c.loop-run.run-iterator.rest.ok.0
     ∙ c.in-None.ensures.steps.0) c.loop-run.invariant.spelled).0
 
@@ -77,6 +80,7 @@ returns-clause-totals g c =
     let before = text_of_pieces c.args.pieces.now.items in
     added-all c.loop-run.totals all
     (all-pieces AreBlocksOfLists (λ first lists. blocks_text (joined_lists lists)) (λ (b : Blocks). b.text) lists-texts
-    (λ others. AddUpWith c.loop-run.totals all (joined_lists others)) (before ++ blocks_text all) c.lists_of_run-size.result
+    (λ others. AddUpWith c.loop-run.totals all (joined_lists others)) (before ++ blocks_text all)
+    c.lists_of_run-size.result
     c.loop-run.pieces.items c.loop-run.run-iterator.rest.items (sym c.loop-run.run-iterator.rest.ok.0
     ∙ c.in-None.ensures.steps.0) c.loop-run.invariant.spelled).1
