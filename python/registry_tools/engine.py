@@ -13,10 +13,11 @@ from types import ModuleType
 from typing import Literal, Protocol
 
 from registry_tools import installed
-from registry_tools.errors import FileFault, WordsFault
+from registry_tools.errors import FileFault, WordsFault, of_file
 from registry_tools.progress import progress
 from registry_tools.texts.day_text import DayText
 from registry_tools.texts.report import Report
+from registry_tools.texts.rows import text_of_rows
 
 TOP = Path(__file__).resolve().parents[2]
 LIBRARY = TOP / "out/library/lib/libregistry.so.1"
@@ -154,11 +155,6 @@ def settler_of(program: str | Literal[True], option: str) -> Settler:
     return library or Program(str(beside), option)
 
 
-def text_of(day: DayText) -> bytes:
-    """The text of a day that was read, row by row."""
-    return "\n".join([*day.source.rows, ""]).encode("utf-8", "surrogateescape")
-
-
 def confirm_figures(day: DayText, report: Report) -> None:
     """Compares the determined figures of a report with those of the library, if it was built. Raises FileFault at the
     first account whose figures differ."""
@@ -166,23 +162,17 @@ def confirm_figures(day: DayText, report: Report) -> None:
     if library is None:
         return
     try:
-        engine = library.figures(text_of(day))
+        engine = library.figures(text_of_rows(day.source.rows))
     except NotSettled as fault:
-        raise FileFault(day.source.path, 0, "", str(fault), "") from None
+        raise of_file(day.source.path, str(fault)) from None
     wanted = figures_by_account(engine)
     for number, block in report.book.items():
         rows = [row.split(",") for row in block.list_rows if row.startswith("figure,")]
         found = {int(year): int(figure) for _, year, figure in rows}
         expected = wanted.get(number, {})
         if found != expected:
-            field = f"figures of account {number}"
-            raise FileFault(
-                report.source.path,
-                block.line,
-                field,
-                words_of(found),
-                f"{words_of(expected)}, as the library gives them",
-            )
+            field, said = f"figures of account {number}", f"{words_of(expected)}, as the library gives them"
+            raise FileFault(report.source.path, block.line, field, words_of(found), said)
 
 
 def figures_by_account(rows: list[str]) -> dict[int, dict[int, int]]:

@@ -1,5 +1,6 @@
 """What goes wrong: each ends a command with a line on standard error and an exit status."""
 from pathlib import Path
+from collections.abc import Collection, Iterable
 from typing import Any
 
 FOUND, WORDS, FILE = 1, 2, 3
@@ -47,6 +48,26 @@ class RowFault(FileFault):
         return f"row {self.number}: {self.cause}"
 
 
+def of_file(path: str | Path, found: str) -> FileFault:
+    """The fault of a whole file: `found` says all of it."""
+    return FileFault(path, 0, "", found, "")
+
+
+def raise_first(faults: Iterable[FileFault | None]) -> None:
+    """Ends the command at the first of these faults, if there is one."""
+    for fault in filter(None, faults):
+        raise fault
+
+
+def must_be_known(
+    path: str | Path, field: str, words: Iterable[str], known: Collection[str], expected: str = ""
+) -> None:
+    """Ends the command at the first of these words of a file that is none of the known ones."""
+    for word in words:
+        if word not in known:
+            raise FileFault(path, 0, field, shown(word), expected or f"one of {', '.join(known)}")
+
+
 def shown(word: str) -> str:
     """A field as a message shows it: between quotes, with what nobody sees made visible."""
     if word == "":
@@ -64,13 +85,9 @@ def visible(character: str) -> str:
 def escaped(character: str) -> str:
     """A character that nobody sees, by its name or its number."""
     names = {
-        "\0": "<NUL>",
-        "\t": "<tab>",
-        "\n": "<line feed>",
-        "\r": "<carriage return>",
-        "\ufeff": "<byte order mark>",
-        "\xa0": "<no-break space>",
-    }
+        "\0": "<NUL>", "\t": "<tab>", "\n": "<line feed>", "\r": "<carriage return>",
+        "\ufeff": "<byte order mark>", "\xa0": "<no-break space>",
+    }  # fmt: skip
     if character in names:
         return names[character]
     number = ord(character)

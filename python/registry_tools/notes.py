@@ -16,6 +16,12 @@ def first_ones(lines: Iterable[str], more: str) -> list[str]:
     return every if left <= 0 else [*every[:MOST_TOLD], f"and {left:,} more {more}"]
 
 
+def first_of(lines: list[str], most: int) -> list[str]:
+    """The first of these lines, at most so many, and a last one that tells how many more there are."""
+    left = len(lines) - most
+    return lines if left <= 0 else [*lines[:most], f"and {left} more"]
+
+
 def counted(number: int, one: str, many: str) -> str:
     """A number with its word."""
     return f"{number} {one if number == 1 else many}"

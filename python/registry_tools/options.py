@@ -4,7 +4,7 @@ import os
 import re
 import sys
 from pathlib import Path
-from typing import IO, Any, Iterator
+from typing import IO, Any, Iterator, NoReturn
 
 from registry_tools import streams
 from registry_tools.errors import WordsFault
@@ -22,33 +22,20 @@ class Given(argparse.Action):
     set: it would stand for no option at all."""
 
     def __call__(
-        self,
-        parser: argparse.ArgumentParser,
-        namespace: argparse.Namespace,
-        values: Any,
+        self, parser: argparse.ArgumentParser, namespace: argparse.Namespace, values: Any,
         option_string: str | None = None,
-    ) -> None:
-        before = given_before(namespace).get(self.dest)
+    ) -> None:  # fmt: skip
+        given: dict[str, Any] = namespace.__dict__.setdefault("_given", {})
+        before = given.get(self.dest)
         if option_string and self.metavar != A_DATE and "" in (values if isinstance(values, list) else [values]):
-            raise nothing_behind(option_string)
+            raise WordsFault(f"{option_string} has nothing behind it")
         if option_string and before is not None:
             if not isinstance(before, list):
                 first, second = ("nothing" if value is True else value for value in (before, values))
                 parser.error(f"{option_string} stands twice, with {first} and with {second}: which of them?")
             values = [*before, *values]
-        given_before(namespace)[self.dest] = values
+        given[self.dest] = values
         setattr(namespace, self.dest, values)
-
-
-def nothing_behind(option: str) -> WordsFault:
-    """The fault of an option with nothing behind it."""
-    return WordsFault(f"{option} has nothing behind it")
-
-
-def given_before(namespace: argparse.Namespace) -> dict[str, Any]:
-    """The values of the options that were given so far."""
-    given: dict[str, Any] = namespace.__dict__.setdefault("_given", {})
-    return given
 
 
 def whole_number(word: str) -> int:
@@ -81,6 +68,14 @@ class Words(argparse.ArgumentParser):
         stream.flush()
 
 
+class TellingWords(Words):
+    """A parser of words that says by a fault what it does not take, and ends nothing."""
+
+    def error(self, message: str) -> NoReturn:
+        """Raises WordsFault with what is wrong."""
+        raise WordsFault(message)
+
+
 def word_of(path: str | Path) -> str:
     """A path as a word that is no option."""
     return f"./{path}" if str(path).startswith("-") and str(path) != STANDARD_INPUT else str(path)
@@ -106,9 +101,13 @@ def is_day_named(parser: argparse.ArgumentParser) -> bool:
 
 def add_to(parser: argparse.ArgumentParser) -> None:
     """The option by which a command writes its answer to a file."""
-    parser.add_argument(
-        "--to", metavar="FILE", help="write to this file, whole or not at all, in place of standard output"
-    )
+    whole = "write to this file, whole or not at all, in place of standard output"
+    parser.add_argument("--to", metavar="FILE", help=whole)
+
+
+def add_engine(parser: argparse.ArgumentParser, option: str, what: str) -> None:
+    """The option by which a day is settled once more: by a program, or else by the library."""
+    parser.add_argument(option, metavar="PROGRAM", nargs="?", const=True, help=what)
 
 
 def look_at_files(words: argparse.Namespace) -> None:

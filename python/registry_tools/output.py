@@ -7,10 +7,11 @@ import shutil
 import stat
 import sys
 from pathlib import Path
+from collections.abc import Iterator
 from types import TracebackType
 
 from registry_tools import steps
-from registry_tools.errors import FileFault
+from registry_tools.errors import FileFault, of_file
 from registry_tools.office.layout import must_not_be_of_folder
 
 # How the name of a file or folder ends that is being written: `.NAME.PROCESS` stands before it.
@@ -22,7 +23,16 @@ ANYBODY_WRITES = stat.S_IWUSR | stat.S_IWGRP | stat.S_IWOTH
 
 def cannot(path: Path, error: OSError) -> FileFault:
     """The fault of a file that cannot be written."""
-    return FileFault(path, 0, "", f"it cannot be written: {error.strerror}", "")
+    return of_file(path, f"it cannot be written: {error.strerror}")
+
+
+@contextlib.contextmanager
+def writing(path: Path) -> Iterator[None]:
+    """Has an error of the system in the block be the fault that this file cannot be written."""
+    try:
+        yield
+    except OSError as error:
+        raise cannot(path, error) from None
 
 
 def write_all(file: int, content: bytes) -> None:
@@ -36,16 +46,16 @@ def must_be_writable(path: str | Path) -> None:
     must_not_be_of_folder(path)
     real = Path(os.path.realpath(path))
     if real.exists() and not real.is_file():
-        raise FileFault(path, 0, "", f"it cannot be written: it is {'a folder' if real.is_dir() else 'no file'}", "")
+        raise of_file(path, f"it cannot be written: it is {'a folder' if real.is_dir() else 'no file'}")
     # (to the superuser each file is open, also one that nobody may write)
     if real.exists() and (not real.stat().st_mode & ANYBODY_WRITES or not os.access(real, os.W_OK)):
-        raise FileFault(path, 0, "", "it may not be written", "")
+        raise of_file(path, "it may not be written")
     if not real.parent.is_dir():
         is_file = real.parent.exists() or not_a_folder(real.parent)
         why = "Not a directory" if is_file else f"there is no folder {Path(path).parent}"
-        raise FileFault(path, 0, "", f"it cannot be written: {why}", "")
+        raise of_file(path, f"it cannot be written: {why}")
     if not os.access(real.parent, os.W_OK | os.X_OK):
-        raise FileFault(path, 0, "", "it cannot be written: its folder may not be written", "")
+        raise of_file(path, "it cannot be written: its folder may not be written")
 
 
 def not_a_folder(path: Path) -> bool:
@@ -96,47 +106,39 @@ class NewFolder:
         remove_left(self.beside.parent)
         # (of a process that had the number of this one)
         shutil.rmtree(self.beside, ignore_errors=True)
+        expected = "a folder that is not there yet, or is empty"
         if self.is_there and any(self.path.iterdir()):
-            raise FileFault(
-                self.path, 0, "", "a folder with files in it", "a folder that is not there yet, or is empty"
-            )
+            raise FileFault(self.path, 0, "", "a folder with files in it", expected)
         if not self.is_there and self.path.is_symlink():
-            raise FileFault(self.path, 0, "", "a link to nothing", "a folder that is not there yet, or is empty")
+            raise FileFault(self.path, 0, "", "a link to nothing", expected)
         if self.path.exists() and not self.is_there:
-            raise FileFault(self.path, 0, "", "a file", "a folder that is not there yet, or is empty")
+            raise FileFault(self.path, 0, "", "a file", expected)
         if not self.path.parent.exists() and not not_a_folder(self.path.parent):
-            raise FileFault(self.path, 0, "", f"it cannot be written: there is no folder {self.path.parent}", "")
-        try:
+            raise of_file(self.path, f"it cannot be written: there is no folder {self.path.parent}")
+        with writing(self.path):
             self.beside.mkdir()
-        except OSError as error:
-            raise cannot(self.path, error) from None
         return self
 
     def make(self, name: str) -> None:
         """Makes a folder inside."""
-        try:
+        with writing(self.path / name):
             (self.beside / name).mkdir()
-        except OSError as error:
-            raise cannot(self.path / name, error) from None
 
     def write(self, name: str, text: str) -> None:
         """Writes a file of the folder."""
-        try:
-            # (there may be 100,000 of them: no stream is made for each)
+        # (there may be 100,000 of them: no stream is made for each)
+        with writing(self.path / name):
             file = os.open(f"{self.beside}/{name}", os.O_WRONLY | os.O_CREAT | os.O_EXCL, 0o666)
             try:
                 write_all(file, text.encode("utf-8", "surrogateescape"))
             finally:
                 os.close(file)
-        except OSError as error:
-            raise cannot(self.path / name, error) from None
 
     def __exit__(self, kind: type | None, _error: BaseException | None, _traceback: TracebackType | None) -> None:
         try:
-            if kind is None:
-                self.keep()
-        except OSError as error:
-            raise cannot(self.path, error) from None
+            with writing(self.path):
+                if kind is None:
+                    self.keep()
         finally:
             shutil.rmtree(self.beside, ignore_errors=True)
 

@@ -4,7 +4,7 @@ import argparse
 import csv
 import io
 import json
-from collections.abc import Iterable, Sequence, Set
+from collections.abc import Callable, Iterable, Sequence, Set
 
 from registry_tools.errors import FileFault
 from registry_tools.options import add_to
@@ -57,9 +57,14 @@ def for_programs(said: argparse.Namespace, columns: Sequence[str], rows: Sequenc
 
 def show(said: argparse.Namespace, columns: Columns, rows: Sequence[Sequence[Cell]]) -> None:
     """Writes rows under their columns."""
-    names = columns.names
-    shown = for_programs(said, names, rows) if is_for_programs(said) else as_table(names, rows, columns.numbers)
-    write_answer(shown, said.to)
+    show_or_tell(said, columns, rows, lambda: as_table(columns.names, rows, columns.numbers))
+
+
+def show_or_tell(
+    said: argparse.Namespace, columns: Columns, rows: Iterable[Sequence[Cell]], text: Callable[[], str]
+) -> None:
+    """Writes rows for programs, or else what people are told."""
+    write_answer(for_programs(said, columns.names, [*rows]) if is_for_programs(said) else text(), said.to)
 
 
 def as_table(columns: Sequence[str], rows: Sequence[Sequence[Cell]], numbers: Set[str]) -> str:
@@ -81,8 +86,5 @@ def fault_row(fault: FileFault | None) -> list[Cell]:
     """A fault as a row of FAULT; of none, nothing. If the whole file is meant, `found` says all."""
     if fault is None:
         return [None] * len(FAULT)
-    return [
-        str(fault.path),
-        fault.line or None,
-        *(str(own) or None for own in (fault.field, fault.found, fault.expected)),
-    ]
+    told = (str(own) or None for own in (fault.field, fault.found, fault.expected))
+    return [str(fault.path), fault.line or None, *told]

@@ -139,189 +139,107 @@ class Check(NamedTuple):
 ALL = " ".join(act.word for act in ACTS)
 # The checks in which they are asked, from the code 1 on.
 CHECKS = (
-    Check(
-        "UnknownAccount",
-        ALL,
-        "There is no account with the number that stands as FROM, TO or ACCOUNT. An addition to a trusted list: also "
-        "if there is no account OTHER.",
-        "Check the account numbers.",
-    ),
-    Check(
-        "SameAccount",
-        "transfer return central distribute trust",
-        "FROM and TO are the same account. A distribution: also if two receivers are. An addition: ACCOUNT and OTHER "
-        "are.",
-        "Name different accounts.",
-    ),
-    Check(
-        "WrongAccountKind",
-        ALL,
-        "An account is not of a kind that the [table of acts](#the-acts) names for this act.",
-        "Use accounts of these kinds.",
-    ),
-    Check(
-        "SourceStatus",
-        "transfer surrender delete return reverse central distribute trust untrust status emissions assess",
-        "FROM does not have a status that the [table of acts](#the-acts) names. A transfer or a deletion: it is not "
-        "open. An assessment: it is excluded or closed. Any other act: it is closed.",
-        "Use another account, or ask an administrator to change the status of FROM. A closed account stays closed.",
-    ),
-    Check(
-        "DestinationStatus",
-        "transfer return create central distribute",
-        "TO is closed. A distribution: one of the receivers is.",
-        "Use another account.",
-    ),
-    Check(
-        "NotProposer",
-        ALL,
-        "The proposer may not propose for this account. For an act of administrators: the proposer is no "
-        "administrator.",
-        "Let a representative with this right propose it. An act of administrators: let a user propose it who stands "
-        "in an `admin` row of the day. See [below](#users-who-may-not-do-it).",
-    ),
-    Check(
-        "ApprovalMissing",
-        ALL,
-        "There is no approver. Only a transfer from an account with the waiver, to an account that it trusts on the "
-        "settlement day, needs none.",
-        "Enter it again with an approver: a second representative. An act of administrators: a second administrator.",
-    ),
-    Check(
-        "SameRepresentative",
-        ALL,
-        "The approver is also the proposer.",
-        "Let another representative approve it. An act of administrators: let another administrator.",
-    ),
-    Check(
-        "NotApprover",
-        ALL,
-        "The approver may not approve for this account. For an act of administrators: the approver is no "
-        "administrator.",
-        "Let a representative with this right approve it. An act of administrators: let a user approve it who stands "
-        "in an `admin` row of the day. See [below](#users-who-may-not-do-it).",
-    ),
-    Check(
-        "NotTrusted",
-        "transfer",
-        "A transfer: FROM does not trust TO on the settlement day, and does not allow transfers outside its list.",
-        "Put TO on the trusted list of FROM, and wait until the entry takes effect.",
-    ),
-    Check(
-        "OutsideCalendar",
-        ALL,
-        "The instruction has no due day. An addition: also if there is no day on which it would take effect.",
-        "Put more working days into the calendar, by `work` rows, and enter the instruction again.",
-    ),
-    Check(
-        "NotDue",
-        ALL,
-        "The due day is later than the settlement day.",
-        "`./day next` and `./day close` enter the same row again on its due day, with [its old date of "
-        "proposal](FORMATS.md#refused-instructions). Without them, enter the row so by hand.",
-    ),
-    Check(
-        "KindNotAllowed",
-        "surrender",
-        "A surrender: the surrender table does not allow this kind of allowance for this kind of account.",
-        "Surrender allowances of an allowed kind.",
-    ),
-    Check(
-        "ZeroAmount",
-        "transfer surrender delete return create central distribute",
-        "The amount is 0. A distribution: one of the amounts is. The tonnes of an entry of emissions may be 0.",
-        "Give an amount of at least 1.",
-    ),
-    Check(
-        "UnknownTransaction",
-        "reverse",
-        "A reversal: the account has no surrender or deletion with this record number.",
-        "Check the account and the record number.",
-    ),
-    Check(
-        "AlreadyReversed",
-        "reverse",
-        "A reversal: this surrender or deletion was reversed before.",
-        "Nothing is left to do. If you meant another one, check the record number.",
-    ),
-    Check(
-        "WindowClosed",
-        "reverse",
-        "A reversal: the reversal window ended before the settlement day.",
-        "It cannot be reversed any more.",
-    ),
-    Check(
-        "NotEnough",
-        "transfer surrender delete return central distribute",
-        "FROM holds less than the amount. A distribution: less than the sum of the amounts.",
-        "Lower the amount, or let FROM receive allowances first.",
-    ),
-    Check(
-        "HoldingTooLarge",
-        "transfer return reverse create central distribute",
-        "An account that receives would hold more than 10^15 allowances of the kind: a TO, or the ACCOUNT of a "
-        "reversal.",
-        "Lower the amount, or use another account. Before a reversal, let the account transfer allowances.",
-    ),
-    Check(
-        "RetiredTooLarge",
-        "surrender delete",
-        "A surrender: the account would have surrendered more than 10^15 allowances of the kind. A deletion: it "
-        "would have deleted more than this.",
-        "Lower the amount.",
-    ),
-    Check(
-        "RowsFull",
-        "surrender delete",
-        "A surrender or deletion: the account already has 4,096 surrenders and deletions. Reversed ones count.",
-        "Use another account.",
-    ),
-    Check(
-        "WouldBecomeNonCompliant",
-        "reverse",
-        "A reversal of a surrender: the figure of the latest determined year of the period of this surrender is 0 or "
-        "more and would be below 0.",
-        "Surrender enough allowances first. They count only if the period of this surrender is the current one: see "
-        "[below](#periods-and-years).",
-    ),
-    Check(
-        "AlreadyTrusted",
-        "trust",
-        "An addition: OTHER is on the trusted list already, whether its entry is in effect or not.",
-        "Nothing. If the entry is not in effect yet, wait until it is.",
-    ),
-    Check(
-        "NotOnList",
-        "untrust",
-        "A removal: OTHER is not on the trusted list.",
-        "Check the account number.",
-    ),
-    Check(
-        "ListFull",
-        "trust",
-        "An addition: the trusted list already has 256 entries.",
-        "Remove an entry first.",
-    ),
-    Check(
-        "YearOutsidePeriod",
-        "emissions assess",
-        "An entry of emissions or an assessment: the year is in no period.",
-        "Check the year, and the `period` rows of the day: see [below](#periods-and-years).",
-    ),
-    Check(
-        "AmountTooLarge",
-        "emissions",
-        "An entry of emissions: the emissions are above 10^12 tonnes.",
-        "Check the number of tonnes.",
-    ),
-    Check(
-        "EmissionsMissing",
-        "assess",
-        "An assessment: the emissions of this year, or of an earlier year of its period, are missing.",
-        "Enter the emissions of every year from the first year of its period up to this one. A year in which nothing "
-        "was emitted takes an entry of 0 tonnes. Years of earlier periods need no entry.",
-    ),
-)
+    Check("UnknownAccount", ALL,
+          "There is no account with the number that stands as FROM, TO or ACCOUNT. An addition to a trusted list: "
+          "also if there is no account OTHER.",
+          "Check the account numbers."),
+    Check("SameAccount", "transfer return central distribute trust",
+          "FROM and TO are the same account. A distribution: also if two receivers are. An addition: ACCOUNT and "
+          "OTHER are.",
+          "Name different accounts."),
+    Check("WrongAccountKind", ALL,
+          "An account is not of a kind that the [table of acts](#the-acts) names for this act.",
+          "Use accounts of these kinds."),
+    Check("SourceStatus", "transfer surrender delete return reverse central distribute trust untrust status emissions "
+          "assess",
+          "FROM does not have a status that the [table of acts](#the-acts) names. A transfer or a deletion: it is not "
+          "open. An assessment: it is excluded or closed. Any other act: it is closed.",
+          "Use another account, or ask an administrator to change the status of FROM. A closed account stays closed."),
+    Check("DestinationStatus", "transfer return create central distribute",
+          "TO is closed. A distribution: one of the receivers is.",
+          "Use another account."),
+    Check("NotProposer", ALL,
+          "The proposer may not propose for this account. For an act of administrators: the proposer is no "
+          "administrator.",
+          "Let a representative with this right propose it. An act of administrators: let a user propose it who "
+          "stands in an `admin` row of the day. See [below](#users-who-may-not-do-it)."),
+    Check("ApprovalMissing", ALL,
+          "There is no approver. Only a transfer from an account with the waiver, to an account that it trusts on the "
+          "settlement day, needs none.",
+          "Enter it again with an approver: a second representative. An act of administrators: a second "
+          "administrator."),
+    Check("SameRepresentative", ALL,
+          "The approver is also the proposer.",
+          "Let another representative approve it. An act of administrators: let another administrator."),
+    Check("NotApprover", ALL,
+          "The approver may not approve for this account. For an act of administrators: the approver is no "
+          "administrator.",
+          "Let a representative with this right approve it. An act of administrators: let a user approve it who "
+          "stands in an `admin` row of the day. See [below](#users-who-may-not-do-it)."),
+    Check("NotTrusted", "transfer",
+          "A transfer: FROM does not trust TO on the settlement day, and does not allow transfers outside its list.",
+          "Put TO on the trusted list of FROM, and wait until the entry takes effect."),
+    Check("OutsideCalendar", ALL,
+          "The instruction has no due day. An addition: also if there is no day on which it would take effect.",
+          "Put more working days into the calendar, by `work` rows, and enter the instruction again."),
+    Check("NotDue", ALL,
+          "The due day is later than the settlement day.",
+          "`./day next` and `./day close` enter the same row again on its due day, with [its old date of "
+          "proposal](FORMATS.md#refused-instructions). Without them, enter the row so by hand."),
+    Check("KindNotAllowed", "surrender",
+          "A surrender: the surrender table does not allow this kind of allowance for this kind of account.",
+          "Surrender allowances of an allowed kind."),
+    Check("ZeroAmount", "transfer surrender delete return create central distribute",
+          "The amount is 0. A distribution: one of the amounts is. The tonnes of an entry of emissions may be 0.",
+          "Give an amount of at least 1."),
+    Check("UnknownTransaction", "reverse",
+          "A reversal: the account has no surrender or deletion with this record number.",
+          "Check the account and the record number."),
+    Check("AlreadyReversed", "reverse",
+          "A reversal: this surrender or deletion was reversed before.",
+          "Nothing is left to do. If you meant another one, check the record number."),
+    Check("WindowClosed", "reverse",
+          "A reversal: the reversal window ended before the settlement day.",
+          "It cannot be reversed any more."),
+    Check("NotEnough", "transfer surrender delete return central distribute",
+          "FROM holds less than the amount. A distribution: less than the sum of the amounts.",
+          "Lower the amount, or let FROM receive allowances first."),
+    Check("HoldingTooLarge", "transfer return reverse create central distribute",
+          "An account that receives would hold more than 10^15 allowances of the kind: a TO, or the ACCOUNT of a "
+          "reversal.",
+          "Lower the amount, or use another account. Before a reversal, let the account transfer allowances."),
+    Check("RetiredTooLarge", "surrender delete",
+          "A surrender: the account would have surrendered more than 10^15 allowances of the kind. A deletion: it "
+          "would have deleted more than this.",
+          "Lower the amount."),
+    Check("RowsFull", "surrender delete",
+          "A surrender or deletion: the account already has 4,096 surrenders and deletions. Reversed ones count.",
+          "Use another account."),
+    Check("WouldBecomeNonCompliant", "reverse",
+          "A reversal of a surrender: the figure of the latest determined year of the period of this surrender is 0 "
+          "or more and would be below 0.",
+          "Surrender enough allowances first. They count only if the period of this surrender is the current one: "
+          "see [below](#periods-and-years)."),
+    Check("AlreadyTrusted", "trust",
+          "An addition: OTHER is on the trusted list already, whether its entry is in effect or not.",
+          "Nothing. If the entry is not in effect yet, wait until it is."),
+    Check("NotOnList", "untrust",
+          "A removal: OTHER is not on the trusted list.",
+          "Check the account number."),
+    Check("ListFull", "trust",
+          "An addition: the trusted list already has 256 entries.",
+          "Remove an entry first."),
+    Check("YearOutsidePeriod", "emissions assess",
+          "An entry of emissions or an assessment: the year is in no period.",
+          "Check the year, and the `period` rows of the day: see [below](#periods-and-years)."),
+    Check("AmountTooLarge", "emissions",
+          "An entry of emissions: the emissions are above 10^12 tonnes.",
+          "Check the number of tonnes."),
+    Check("EmissionsMissing", "assess",
+          "An assessment: the emissions of this year, or of an earlier year of its period, are missing.",
+          "Enter the emissions of every year from the first year of its period up to this one. A year in which "
+          "nothing was emitted takes an entry of 0 tonnes. Years of earlier periods need no entry."),
+)  # fmt: skip
 # These two ask the representatives, or the administrators, as the act says.
 ASK_USERS = ("NotProposer", "NotApprover")
 
@@ -365,9 +283,7 @@ def columns(words: str) -> Columns:
 
 
 COLUMNS = {
-    "find": columns(
-        "date #record proposed #proposer #approver act #from #to kind #amount #year outcome status"
-    ),
+    "find": columns("date #record proposed #proposer #approver act #from #to kind #amount #year outcome status"),
     "due": columns("date what #account #record text"),
     "balance": columns("after #account kind #held #surrendered #deleted"),
     "history": columns("date #record what outcome #general #aviation"),
@@ -401,10 +317,8 @@ LIMITS = (
     ("entries of a trusted list", f"{MOST_TRUSTED}"),
     ("surrenders and deletions of an account, together with reversed ones", f"{MOST_ROWS:,}"),
     ("what an account holds of each kind", f"0 to {power(MOST_HELD)}"),
-    (
-        "what an account has surrendered of each kind, for all periods together; what it has deleted of each kind",
-        f"0 to {power(MOST_RETIRED)}",
-    ),
+    ("what an account has surrendered of each kind, for all periods together; what it has deleted of each kind",
+     f"0 to {power(MOST_RETIRED)}"),
     ("the amount of one surrender or deletion", f"1 to {power(MOST_RETIRED)}"),
     ("emissions of a year", f"0 to {power(MOST_TONNES)} tonnes"),
     ("compliance periods of a day", f"1 to {MOST_PERIODS}"),
@@ -420,4 +334,4 @@ LIMITS = (
     ("amount or tonnes of an instruction", f"0 to {MOST_U64:,}"),
     ("workers", f"1 to {MOST_WORKERS}"),
     ("input of the program", "2^30 bytes"),
-)
+)  # fmt: skip

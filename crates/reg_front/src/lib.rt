@@ -43,6 +43,7 @@ mod fault;
 mod faulty;
 mod input;
 mod line;
+mod memory;
 mod offset;
 mod pieces;
 mod ranged;

@@ -18,6 +18,7 @@ ghost use Rattle.reg_front.specs.Runs.{command_fault, IsTextFor, IsCommandFault}
 
 use crate::command::Command;
 use crate::fault::FrontFault;
+use crate::memory::Memory;
 use reg_base::{AccountNo, Batch, NoMemory, Rules};
 use reg_book::{
     ClosedDay, ClosedParts, Parts, SettleFault, Settled, log_is_made_again, settle_in_place,
@@ -53,8 +54,8 @@ pub(crate) struct Used {
     closed: Closed,
 }
 
-/// The text of a command for a day, made by so many threads; by workers, if these settle it. `bytes` are no longer
-/// needed: a report by one worker and a text of figures take their memory. For another text it is given back before.
+/// The text of a command for a day, made by so many threads; by workers, if these settle it. The input that lay in
+/// `memory` is no longer needed: a report and a text of figures take its memory, and for another text it is given back.
 ///
 /// # Errors
 /// `Workers` if the number of workers is not 1 to 8, and `NoAccount` if the account of a statement is not in the book.
@@ -63,7 +64,7 @@ pub(crate) fn make_text<T: Threads + Sync>(
     rt: &T,
     alloc: Global,
     day: DayParts,
-    bytes: Vec<u8>,
+    memory: Memory,
     command: &Command,
     threads: u32,
 ) -> Result<Used, FrontFault>
@@ -75,32 +76,35 @@ pub(crate) fn make_text<T: Threads + Sync>(
         (IsCommandFault command.now day.parts) }
 {
     match *command {
-        Command::Settle { workers: 1 } => make_report_in_place(alloc, day, bytes),
-        Command::Settle { workers } => {
-            drop(bytes);
-            make_report(rt, alloc, day, workers)
+        Command::Settle { workers: 1 } => {
+            make_report_in_place(alloc, day, memory.into_text(alloc))
         }
-        Command::Figures => make_figures(rt, alloc, day, bytes, threads),
+        Command::Settle { workers } => {
+            make_report(rt, alloc, day, memory.into_pieces(alloc), workers)
+        }
+        Command::Figures => make_figures(rt, alloc, day, memory.into_text(alloc), threads),
         Command::Plan => {
-            drop(bytes);
+            drop(memory);
             make_plan(rt, alloc, &day, threads)
         }
         Command::Statement { account } => {
-            drop(bytes);
+            drop(memory);
             make_statement(alloc, day, account)
         }
         Command::Totals => {
-            drop(bytes);
+            drop(memory);
             make_totals(rt, alloc, day, threads)
         }
     }
 }
 
-// The report of the day, settled by workers, who also spell it, in pieces.
+// The report of the day, settled by workers, who also spell it, in pieces, in the place of texts that are no longer
+// needed.
 fn make_report<T: Threads + Sync>(
     rt: &T,
     alloc: Global,
     day: DayParts,
+    spare: Vec<Vec<u8>>,
     workers: u32,
 ) -> Result<Used, FrontFault>
     requires { day.batch.base + 1 ≡ day.parts.next }
@@ -115,16 +119,17 @@ fn make_report<T: Threads + Sync>(
         batch,
     } = day;
     let closed = close_by_workers(rt, alloc, parts, &rules, &batch, workers)?;
-    let used = spell(rt, alloc, closed, &batch, workers as usize)?;
+    let used = spell(rt, alloc, closed, &batch, spare, workers as usize)?;
     Ok(used)
 }
 
-// The report of a closed day, spelled by so many threads.
+// The report of a closed day, spelled by so many threads in the place of texts that are no longer needed.
 fn spell<T: Threads + Sync>(
     rt: &T,
     alloc: Global,
     closed: ClosedParts,
     batch: &Batch,
+    spare: Vec<Vec<u8>>,
     threads: usize,
 ) -> Result<Used, NoMemory>
     requires { 1 ≤ threads }
@@ -132,7 +137,7 @@ fn spell<T: Threads + Sync>(
         ≡ text_of (report_rows closed.parts (rows_replied batch.now closed.replies.items))) }
 {
     let replies = closed.replies.as_slice();
-    let pieces = write_report_pieces(rt, alloc, &closed.parts, batch, replies, threads)?;
+    let pieces = write_report_pieces(rt, alloc, &closed.parts, batch, replies, spare, threads)?;
     Ok(Used {
         pieces,
         text: Vec::new(alloc),

@@ -11,7 +11,7 @@ import re
 from dataclasses import dataclass
 from pathlib import Path
 
-from registry_tools.errors import FileFault, shown
+from registry_tools.errors import FileFault, must_be_known, shown
 
 SECTION = "due"
 SURRENDER, EMISSIONS, LEAD = NAMES = ("surrender", "emissions", "lead")
@@ -54,9 +54,7 @@ def read(path: Path, parser: configparser.ConfigParser) -> DueDates:
     if SECTION not in parser:
         return DueDates()
     section = parser[SECTION]
-    unknown = next((name for name in section if name not in NAMES), None)
-    if unknown is not None:
-        raise FileFault(path, 0, "name", shown(unknown), f"one of {', '.join(NAMES)}")
+    must_be_known(path, "name", section, NAMES)
     surrender, emissions = (month_day_of(path, section, name) for name in (SURRENDER, EMISSIONS))
     return DueDates(surrender, emissions, lead_of(path, section))
 

@@ -132,11 +132,9 @@ def next_calendar(day: DayText, path: str | None, notes: Notes) -> list[datetime
     added = sorted({*new} - {*old})
     between = [date for date in added if old and date < old[-1]]
     if between:
-        place = f"{path}:{source.line(new.index(between[0]))}"
-        notes.warn(
-            f"{place}: {between[0]} was no working day in {day.path}, whose calendar goes on to {old[-1]}: "
-            "due days change"
-        )
+        place = f"{path}:{source.line(new.index(between[0]))}: {between[0]}"
+        goes_on = f"whose calendar goes on to {old[-1]}: due days change"
+        notes.warn(f"{place} was no working day in {day.path}, {goes_on}")
     notes.add(f"calendar: {len(added)} working days added, {len(new) - len(added)} repeated left out")
     every = sorted([*old, *added])
     missing = [own for own in left_out(every) if not old or own > old[-1]]

@@ -12,7 +12,7 @@ import argparse
 import os
 from pathlib import Path
 
-from registry_tools.errors import FileFault
+from registry_tools.errors import FileFault, raise_first
 from registry_tools.office import anchors, composing, files, folder, journal, words
 from registry_tools.office.anchors import Anchor
 from registry_tools.office.folder import Office
@@ -31,7 +31,7 @@ def add_words(parser: argparse.ArgumentParser) -> None:
 
 def run(said: argparse.Namespace) -> int:
     """Runs the command, and answers the exit status."""
-    office = folder.opened(said.office, folder.to_errors)
+    office = folder.opened(said.office)
     row = anchor_of(office).row()
     if said.kept is None:
         write_answer(f"{row}\n", None)
@@ -45,9 +45,8 @@ def run(said: argparse.Namespace) -> int:
 def anchor_of(office: Office) -> Anchor:
     """The anchor of a folder as it stands."""
     last = composing.last_day(office)
-    for fault in (*office.changed_files(last), *office.changed_tables(last)):
-        # (a head that is kept says of these files that they are right)
-        raise fault
+    # (a head that is kept says of these files that they are right)
+    raise_first([*office.changed_files(last), *office.changed_tables(last)])
     anchor = Anchor(journal.now(), last.date, office.journal.last_line, last.engine)
     key = office.settings.key
     return anchors.signed(anchor, key) if key else anchor

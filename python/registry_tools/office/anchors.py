@@ -16,7 +16,7 @@ import re
 import subprocess
 import tempfile
 from collections.abc import Iterator
-from dataclasses import dataclass
+from dataclasses import dataclass, replace
 from pathlib import Path
 
 from registry_tools.errors import FileFault, WordsFault, shown
@@ -115,9 +115,7 @@ def parting(there: Journal, date: datetime.date) -> str:
 def signed(anchor: Anchor, key: Path) -> Anchor:
     """An anchor with its signature by the key."""
     armoured = keygen("sign", ["-f", str(key)], anchor.signed_text(), key)
-    lines = armoured.split("\n")
-    body = "".join(line for line in lines if line and not line.startswith("-----"))
-    return Anchor(anchor.at, anchor.date, anchor.head, anchor.engine, body)
+    return replace(anchor, signature="".join(line for line in armoured.split("\n") if not line.startswith("-----")))
 
 
 def wrong_signature(anchor: Anchor, key: Path) -> str:

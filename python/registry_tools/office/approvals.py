@@ -47,8 +47,9 @@ class Office(Protocol):
     """What is asked of an open folder (office/folder.py)."""
 
     journal: Journal
-    # The login that changes it.
+    # The login that changes it, and the name that was given.
     login: str
+    who: str
 
     @property
     def next_folder(self) -> Path:
@@ -222,7 +223,7 @@ def look_at(office: Office, handed_in: HandedIn) -> None:
     handed_in.waiting, handed_in.approved = [], []
     for part in handed_in.parts:
         command = COMMAND_OF.get(part.kind)
-        if command is None or not waits(office, command) or not handed_in.counts(part):
+        if command is None or not waits(office, command) or not handed_in.left_of(part):
             continue
         own = sum_of_part(handed_in, part)
         by = next((each for each in valid if is_second(office, each, command, own, part.login)), None)
@@ -241,12 +242,12 @@ def approvers(office: Office, asked: Asked) -> list[str]:
 # Asking and approving.
 
 
-def let_through(office: Office, command: str, date: object, words: str, result: str, who: str) -> str | None:
+def let_through(office: Office, command: str, date: object, words: str, result: str) -> str | None:
     """Who approved that this login does this; nothing, if nobody has to. If it has to wait, keeps what is asked for,
     says so, and answers None."""
     if not waits(office, command):
         return ""
-    asked = Asked(journal.now(), who, office.login, command, str(date), words, state_of(office), result)
+    asked = Asked(journal.now(), office.who, office.login, command, str(date), words, state_of(office), result)
     by = approvers(office, asked)
     if by:
         return ", ".join(by)
@@ -269,9 +270,9 @@ def second_for(office: Office, command: str, login: str) -> str:
     return " or ".join(others) or "somebody else, and office.ini names nobody who may"
 
 
-def approve(office: Office, sum_asked: str, what: str, who: str) -> str:
+def approve(office: Office, sum_asked: str, what: str) -> str:
     """Approves what has this sum. Answers what could not be done behind it, in words."""
-    approval = Approval(journal.now(), who, office.login, sum_asked, what)
+    approval = Approval(journal.now(), office.who, office.login, sum_asked, what)
     remove_stale(office)
     return put(office, approval.file, row_of([APPROVED, *approval]))
 
@@ -290,6 +291,3 @@ def remove_stale(office: Office) -> None:
         if path.name not in known:
             with contextlib.suppress(OSError):
                 path.unlink()
-
-
-# What waits, in words.

@@ -37,24 +37,24 @@ def add_words(parser: argparse.ArgumentParser) -> None:
 
 def run(said: argparse.Namespace) -> int:
     """Runs the command, and answers the exit status."""
-    who = words.one_line("--who", said.who)
+    words.one_line("--who", said.who)
     if not said.what:
         return show_waiting(said)
-    with folder.locked(said.office, "approve", who, folder.to_errors, said.seen, said.whom) as office:
+    with words.changing(said, "approve") as office:
         if said.what[0] in OF_DATES:
-            return approve_command(office, said, who)
+            return approve_command(office, said)
         if said.date is not None:
             raise WordsFault("--date stands behind a command: a place needs none")
         handed_in = office.handed_in()
         parts = [part_at(office, handed_in, word) for word in said.what]
         for part in {part.start: part for part in parts}.values():
-            approve_part(office, handed_in, part, who)
+            approve_part(office, handed_in, part)
     return 0
 
 
 def show_waiting(said: argparse.Namespace) -> int:
     """Shows what waits for whom."""
-    office = folder.opened(said.office, folder.to_errors)
+    office = folder.opened(said.office)
     handed_in = office.handed_in()
     lines = [*awaited.told(office, handed_in)]
     for part in handed_in.waiting:
@@ -82,13 +82,13 @@ def part_at(office: Office, handed_in: HandedIn, word: str) -> Part:
     return part
 
 
-def approve_part(office: Office, handed_in: HandedIn, part: Part, who: str) -> None:
+def approve_part(office: Office, handed_in: HandedIn, part: Part) -> None:
     """Approves something that was handed in."""
     items = [item for item in handed_in.items(part.kind) if item.part is part]
     if not items:
         raise WordsFault(f"place {part.start} was taken back")
     where = handed.places(part.start, part.end)
-    left = approvals.approve(office, approvals.sum_of_part(handed_in, part), where, who)
+    left = approvals.approve(office, approvals.sum_of_part(handed_in, part), where)
     print(f"approved: {where}, by {awaited.who_did(office, part.who, part.login)}: {part.name}{left}")
     print("\n".join(f"  {row}" for item in items for row in item.rows))
 
@@ -103,7 +103,7 @@ def must_be_other(office: Office, command: str, who: str, login: str) -> None:
 # Commands.
 
 
-def approve_command(office: Office, said: argparse.Namespace, who: str) -> int:
+def approve_command(office: Office, said: argparse.Namespace) -> int:
     """Approves what somebody asked for."""
     command, *more = said.what
     if more or said.date is None:
@@ -115,7 +115,7 @@ def approve_command(office: Office, said: argparse.Namespace, who: str) -> int:
     asked = there[0]
     must_be_other(office, command, asked.who, asked.login)
     must_be_same(office, asked)
-    left = approvals.approve(office, asked.sum, str(asked), who)
+    left = approvals.approve(office, asked.sum, str(asked))
     by = awaited.who_did(office, asked.who, asked.login)
     print(f"approved: {asked}, asked for by {by}: another login than {office.login} gives it again{left}")
     return 0

@@ -8,7 +8,7 @@ from registry_tools.office import past
 from registry_tools.office.daybase import MOST_STORED
 from registry_tools.office.folder import Office
 from registry_tools.second import faults, rules
-from registry_tools.tables import ACTS, DISTRIBUTE
+from registry_tools.tables import ACTS, DISTRIBUTE, RETIRED_AS
 from registry_tools.texts.accounts import Reader
 from registry_tools.texts.books import Sums
 from registry_tools.texts.changes import HandChange
@@ -61,14 +61,14 @@ def log_row_of(office: Office, database: sqlite3.Connection, row: tuple[Any, ...
     fields = [proposed, proposer, "" if approver is None else approver, act, *own]
     instruction = rules.read_instruction([*map(str, fields)])
     name = CHECK_NAMES[code - 1] if code else ""
-    return LogRow(
-        "", 0, record, datetime.date.fromisoformat(date), instruction, bool(is_done), figure, code or 0, name
-    )
+    when, outcome = datetime.date.fromisoformat(date), (bool(is_done), figure, code or 0, name)
+    return LogRow("", 0, record, when, instruction, *outcome)
 
 
 def as_reported(office: Office, date: datetime.date, record: int) -> LogRow:
     """A log row of the report itself: a number of it may be larger than a column can hold."""
-    event = next(event for event in office.journal.filed() if event.date == date)
+    event = office.journal.day_of(date)
+    assert event is not None  # (the index has the days of the journal)
     source = rows_of(str(past.as_filed(office, event, "report")))
     place = next(place for place, row in enumerate(source.rows) if row.startswith(f"log,{record},"))
     return log_row(Reader(source, faults.Reading(last="work", version=2)), place)
@@ -76,24 +76,18 @@ def as_reported(office: Office, date: datetime.date, record: int) -> LogRow:
 
 def balance(database: sqlite3.Connection, account: int, date: str) -> dict[str, Sums] | None:
     """What an account held, had surrendered and had deleted after a day, by kind; None, if there was none."""
-    state = database.execute(
-        "SELECT date, general, aviation FROM accounts_by_day WHERE account = ? AND date <= ?"
-        " ORDER BY date DESC LIMIT 1",
-        (account, date),
-    ).fetchone()
+    last = "WHERE account = ? AND date <= ? ORDER BY date DESC LIMIT 1"
+    state = database.execute(f"SELECT date, general, aviation FROM accounts_by_day {last}", (account, date)).fetchone()
     if state is None:
         return None
     since, *held = state
-    gone = {(what, kind): 0 for what in ("surrender", "deletion") for kind in rules.KINDS}
-    gone |= {
-        (what, kind): amount
-        for what, kind, amount in database.execute(
-            "SELECT what, kind, sum(amount) FROM surrenders WHERE account = ? AND date = ? AND NOT is_reversed"
-            " GROUP BY what, kind",
-            (account, since),
-        )
-    }
-    return {kind: Sums(own, gone["surrender", kind], gone["deletion", kind]) for kind, own in zip(rules.KINDS, held)}
+    gone = (
+        "SELECT what, kind, sum(amount) FROM surrenders WHERE account = ? AND date = ? AND NOT is_reversed"
+        " GROUP BY what, kind"
+    )
+    sums = {(what, kind): amount for what, kind, amount in database.execute(gone, (account, since))}
+    kinds = zip(rules.KINDS, held)
+    return {kind: Sums(own, *(sums.get((what, kind), 0) for what in RETIRED_AS)) for kind, own in kinds}
 
 
 def hand_changes(database: sqlite3.Connection, where: str, *values: object) -> Iterator[tuple[str, HandChange]]:

@@ -26,8 +26,7 @@ import itertools
 import sqlite3
 from typing import Iterator
 
-from registry_tools import showing
-from registry_tools.calendars import dates
+from registry_tools import showing, tables
 from registry_tools.errors import FOUND, FileFault, WordsFault
 from registry_tools.notes import LOOK, counted
 from registry_tools.office import (
@@ -37,17 +36,15 @@ from registry_tools.office.audited import (
     APPROVES_NOTHING, JOURNAL_BACK, JOURNAL_FIRST, NEXT_BACK, OTHER_FOLDER, WAITS_BACK, Audit, compare_texts,
 )  # fmt: skip
 from registry_tools.office.folder import Office
-from registry_tools.office.journal import Event, Journal
+from registry_tools.office.journal import Journal
 from registry_tools.office.layout import DAYS, JOURNAL, SETTINGS
 from registry_tools.office.past import PastDay
-from registry_tools.office.seams import look_at_day
+from registry_tools.office.seams import Pair, look_at_day
 from registry_tools.office.waits import waits_text
-from registry_tools.output import write_answer
 from registry_tools.progress import progress
-from registry_tools.texts.day_text import DayText
-from registry_tools.texts.report import Report
 
 EXAMPLE = "./day audit --second --office out/office"
+COLUMNS = tables.COLUMNS["audit"]
 
 
 def add_words(parser: argparse.ArgumentParser) -> None:
@@ -65,7 +62,7 @@ def add_words(parser: argparse.ArgumentParser) -> None:
 def run(said: argparse.Namespace) -> int:
     """Runs the command, and answers the exit status."""
     path = folder.folder_of(said.office)
-    folder.put_right_if_free(path, folder.to_errors)
+    folder.put_right_if_free(path)
     begin = past.date_or("--from", said.begin, datetime.date.min)
     named = settings.read(path / SETTINGS)
     there = Journal(path / JOURNAL, files.bytes_in(path / JOURNAL).decode("utf-8", "surrogateescape"))
@@ -80,12 +77,9 @@ def run(said: argparse.Namespace) -> int:
     look_at_next(audit)
     with index.there(audit.office) as database:
         look_at_days(audit, begin, said.settle, said.second, database)
-    if showing.is_for_programs(said):
-        write_answer(
-            showing.for_programs(said, showing.FAULT, [showing.fault_row(finding) for finding in audit.found]), said.to
-        )
-    else:
-        write_answer("\n".join([*map(str, audit.found), summary(audit), ""]), said.to)
+    rows = map(showing.fault_row, audit.found)
+    told = [*map(str, audit.found), summary(audit), ""]
+    showing.show_or_tell(said, COLUMNS, rows, lambda: "\n".join(told))
     tell_engines(there)
     tell_people(there)
     if audit.found and (is_changing or has_changed(there)):
@@ -132,12 +126,12 @@ def look_at_heads(audit: Audit, said: argparse.Namespace) -> None:
     if said.date is not None and said.since is None:
         raise WordsFault("--date tells the last day of --since HEAD, which is not there")
     if said.since is not None:
-        date = dates.date_of("--date", said.date) if said.date is not None else None
+        date = past.date_or("--date", said.date, None)
         fault = anchors.not_grown(there, anchors.head_of(said.since), date)
-        audit.add(*([fault] if fault else []), mend=OTHER_FOLDER)
+        audit.add(fault, mend=OTHER_FOLDER)
     for line, anchor in anchors.read(said.anchors) if said.anchors is not None else ():
         fault = anchors.not_grown(there, anchor.head, anchor.date)
-        audit.add(*([fault] if fault else []), mend=OTHER_FOLDER)
+        audit.add(fault, mend=OTHER_FOLDER)
         wrong = anchors.wrong_signature(anchor, key) if key else ""
         if wrong:
             audit.add(FileFault(said.anchors, line, "SIGNATURE", wrong, f"one by {key}"))
@@ -187,7 +181,7 @@ def look_at_days(
     audit: Audit, begin: datetime.date, by_program: bool, by_second: bool, database: sqlite3.Connection | None
 ) -> None:
     """Each pair by itself, each day with the pair before it, and what the index has of it, if there is one."""
-    before: tuple[Event, DayText, Report] | None = None
+    before: Pair | None = None
     filed = audit.office.journal.filed()
     for event in progress.over(filed, "looking at the days", len(filed), step=1):
         if event.date < begin:
@@ -207,12 +201,7 @@ def look_at_days(
     look_at_waits(audit, before)
 
 
-def look_at_index(
-    audit: Audit,
-    database: sqlite3.Connection,
-    own: tuple[Event, DayText, Report],
-    before: tuple[Event, DayText, Report] | None,
-) -> None:
+def look_at_index(audit: Audit, database: sqlite3.Connection, own: Pair, before: Pair | None) -> None:
     """Whether the index has of a day what its files have, if they are as they were filed."""
     if {own[0].date, before and before[0].date} & audit.changed:
         return
@@ -221,7 +210,7 @@ def look_at_index(
     audit.add(*index.differences_from_files(database, audit.office, PastDay(day, report, *old)))
 
 
-def look_at_waits(audit: Audit, last: tuple[Event, DayText, Report] | None) -> None:
+def look_at_waits(audit: Audit, last: Pair | None) -> None:
     """Whether next/ has what waits behind the last day, as the command wrote it that filed or undid a day."""
     if last is None:
         return

@@ -36,9 +36,9 @@ class Audit:
         """How a difference of a day is mended: first its files, if they are not as they were filed."""
         return FILES_FIRST if date in self.changed else SETTLE_AGAIN
 
-    def add(self, *faults: FileFault, mend: str = "") -> None:
+    def add(self, *faults: FileFault | None, mend: str = "") -> None:
         """Adds what was found, and how it is mended, each once: a file that lacks is missed by each that reads it."""
-        for fault in faults:
+        for fault in filter(None, faults):
             # (what to do about it is said by the first one alone)
             told = str(fault) if fault.expected else str(fault).partition(";")[0]
             if told not in self.told:

@@ -16,6 +16,7 @@ import contextlib
 import datetime
 import io
 import os
+from collections import Counter
 from dataclasses import dataclass
 from pathlib import Path
 from types import ModuleType
@@ -23,11 +24,10 @@ from typing import Iterator
 
 from registry_tools import streams
 from registry_tools.calendars.due_days import NOT_DUE
-from registry_tools.errors import FOUND, WordsFault
+from registry_tools.errors import FOUND, WordsFault, raise_first
 from registry_tools.notes import LOOK, worth_telling
 from registry_tools.office import (
-    approvals, composing, files, folder, handed, handed_files, index, journal, prepared, settling, sources,
-    words,
+    approvals, composing, files, folder, handed, handed_files, index, prepared, settling, sources, words,
 )  # fmt: skip
 from registry_tools.office.composing import NextDay
 from registry_tools.office.folder import Office
@@ -48,7 +48,7 @@ from registry_tools.texts.books import Sums, sums_of, sums_told
 from registry_tools.texts.checks import checks
 from registry_tools.texts.day_text import DayText
 from registry_tools.texts.in_words import grouped
-from registry_tools.texts.pairs import must_follow
+from registry_tools.texts.follows import must_follow
 from registry_tools.texts.report import Report, report_of
 from registry_tools.texts.rows import rows_of_text
 
@@ -74,12 +74,13 @@ class Settled:
     report: Report
     report_text: bytes
     engine: Engine
+    # The day as the index has it, with the day before.
+    past_day: PastDay
 
 
 def run(said: argparse.Namespace) -> int:
     """Runs the command, and answers the exit status."""
-    who = words.one_line("--who", said.who)
-    with folder.locked(said.office, "close", who, folder.to_errors, said.seen, said.whom) as office:
+    with words.changing(said, "close") as office:
         handed_in = office.handed_in()
         handed_in.remove_unnamed()
         date = composing.settlement_date(said.date, office, handed_in)
@@ -92,30 +93,23 @@ def run(said: argparse.Namespace) -> int:
             print(streams.by_name("\n".join(lines)))
             return FOUND
         asked, result = "--second" if said.second else "", files.sum_of(composed.text + composed.waiting_text())
-        approved = approvals.let_through(office, "close", date, asked, result, who)
+        approved = approvals.let_through(office, "close", date, asked, result)
         if approved is None:
             return FOUND
         settled = settle(office, composed, said.second, said.verify)
         with Change(office) as change:
-            filed = file_day(office, change.make(prepared.NEW_DAY), mine, settled, who)
-            event = office.signed(filed, approved)
-            there = handed_files.begin(change.make(prepared.NEW_NEXT), event.line)
+            event = file_day(office, change.make(prepared.NEW_DAY), mine, settled, approved)
+            there = HandedIn(change.make(prepared.NEW_NEXT), event.line)
             handed_files.put_left(there, handed_in, later)
             waiting = change.folder / prepared.NEW_DAY / FILES["waiting"]
             write_waits(there.folder, settled.day, settled.report, str(waiting))
             there.keep()
             change.keep(event)
-        index.keep_up(office, event, past_day_of(settled))
+        index.keep_up(office, event, settled.past_day)
     # (it is another one on each machine, and the answer is not)
     folder.to_errors(f"settled by {settled.engine}\nhead: {office.journal.head}")
     print(streams.by_name("\n".join([*summary(outcome_of_day(settled), said.second), *left])))
     return 0
-
-
-def past_day_of(settled: Settled) -> PastDay:
-    """The day as the index has it, with the day before."""
-    before = settled.composed.before
-    return PastDay(settled.day, settled.report, before and before[1], before[0].heading if before else [])
 
 
 def left_for_later(handed_in: HandedIn, date: datetime.date) -> list[str]:
@@ -128,9 +122,8 @@ def left_for_later(handed_in: HandedIn, date: datetime.date) -> list[str]:
     items = [item for item in handed_in.items(*handed.KINDS) if item.part.is_of_later(date)]
     if items:
         first = min(item.part.earliest for item in items if item.part.earliest)
-        left.append(
-            f"{LOOK}: not in this day, and handed in for {first} or later: {len(items)}; ./day status shows them"
-        )
+        more = f"handed in for {first} or later: {len(items)}; ./day status shows them"
+        left.append(f"{LOOK}: not in this day, and {more}")
     return left
 
 
@@ -143,18 +136,16 @@ def settle(office: Office, composed: NextDay, by_second: bool, verifies: bool = 
     whose = "the second answer" if by_second else program or "the program"
     source = rows_of_text(f"the report of {whose}", text.decode("utf-8", "surrogateescape"))
     report = report_of(source, day)
-    must_follow(day, report)
+    before = composed.before
+    past_day = PastDay(day, report, before and before[1], before[0].heading if before else [])
+    must_follow(day, report, past_day.sums())
     if not by_second:
-        looks_at_all = verifies or office.settings.verifies
-        difference = (
-            first_difference(source, expected_rows(day)) if looks_at_all else difference_of_touched(day, report)
-        )
-        if difference:
-            raise difference
-    return Settled(composed, day, report, text, engine)
+        whole = verifies or office.settings.verifies
+        raise_first([first_difference(source, expected_rows(day)) if whole else difference_of_touched(day, report)])
+    return Settled(composed, day, report, text, engine, past_day)
 
 
-def file_day(office: Office, place: Path, handed_in: HandedIn, settled: Settled, who: str) -> Event:
+def file_day(office: Office, place: Path, handed_in: HandedIn, settled: Settled, approved: str) -> Event:
     """Makes the files of the day in an empty folder, and answers its line of the journal."""
     composed, report = settled.composed, settled.report
     contents = {
@@ -168,10 +159,9 @@ def file_day(office: Office, place: Path, handed_in: HandedIn, settled: Settled,
         sums[key] = files.sum_of(lies)
     sources.file_all(handed_in.folder, place / TABLES, handed_in.sources())
     make_papers(office, place)
-    first = settled.day.head.next_record
-    return Event(
-        FILED, journal.now(), who, composed.date, first, report.next_record, sums, "", office.journal.last_line,
-        office.kept_labels_sum(), settled.engine.row(),
+    return office.event(
+        FILED, composed.date, settled.day.head.next_record, report.next_record, sums=sums, approved=approved,
+        labels=office.kept_labels_sum(), engine=settled.engine.row(),
     )  # fmt: skip
 
 
@@ -226,10 +216,7 @@ class Outcome:
 def outcome_of_day(settled: Settled) -> Outcome:
     """What came of a settled day, as it is told."""
     day, report = settled.day, settled.report
-    refused: dict[str, int] = {}
-    for logged in report.log:
-        if not logged.is_done and logged.name != NOT_DUE:
-            refused[logged.name] = refused.get(logged.name, 0) + 1
+    refused = Counter(own.name for own in report.log if not own.is_done and own.name != NOT_DUE)
     done, waiting = sum(logged.is_done for logged in report.log), waiting_after(settled)
     notes, compliant = worth_telling(settled.composed.notes), compliance_share(settled)
     first, behind = day.head.next_record, report.next_record
@@ -248,10 +235,8 @@ def summary(own: Outcome, by_second: bool) -> list[str]:
     lines += [f"refused {count}: {name}: {checks()[name].meaning}" for name, count in own.refused.items()]
     lines.append(f"waiting: {own.waiting}")
     for kind in rules.KINDS:
-        old, new = own.before[kind], own.after[kind]
-        held, surrendered = before_and_after(old.held, new.held), before_and_after(old.surrendered, new.surrendered)
-        deleted = before_and_after(old.deleted, new.deleted)
-        lines.append(f"{kind}: held {held}, surrendered {surrendered}, deleted {deleted}")
+        pairs = zip(Sums._fields, own.before[kind], own.after[kind])
+        lines.append(f"{kind}: {', '.join(f'{name} {before_and_after(old, new)}' for name, old, new in pairs)}")
     return [*lines, *own.compliant]
 
 

@@ -1,23 +1,21 @@
 """Makes the text of the next day of a folder: of the last day with its report, and of what was handed in since."""
 import contextlib
 import datetime
-import gzip
 import itertools
 import tempfile
-import zlib
 from dataclasses import dataclass, field, replace
 from pathlib import Path
 from typing import Iterator
 
 from registry_tools import tables
 from registry_tools.calendars import dates, working_days as calendars
-from registry_tools.errors import FileFault, WordsFault
+from registry_tools.errors import FileFault, WordsFault, raise_first
 from registry_tools.notes import BY_HAND, Notes
-from registry_tools.office import handed, next as next_day, past
+from registry_tools.office import files, next as next_day, past
 from registry_tools.office.changes import edits
 from registry_tools.office.changes.edits import EditFault
 from registry_tools.office.folder import Office
-from registry_tools.office.handed import CHANGES, DO, EDITS, FIRST, WORK, HandedIn, Item
+from registry_tools.office.handed import CHANGES, DO, EDITS, FIRST, KINDS, WORK, HandedIn, Item
 from registry_tools.office.journal import Event
 from registry_tools.office.merged import Merged, contents_of, edited_changes, edits_in, written
 from registry_tools.second import faults, rules
@@ -26,7 +24,7 @@ from registry_tools.texts.accounts import Accounts, Reader
 from registry_tools.texts.day_text import DayText, day_of
 from registry_tools.texts.repeated import tell_dates
 from registry_tools.texts.report import Report
-from registry_tools.texts.rows import Rows, rows_of_text
+from registry_tools.texts.rows import Rows, rows_of_text, text_of_rows
 
 
 @dataclass
@@ -67,7 +65,7 @@ def settlement_date(word: str | None, office: Office, handed_in: HandedIn) -> da
         return first.head.date
     last = office.last()
     assert last is not None  # (without a filed day there is the first text)
-    undone = [item.part.earliest for item in handed_in.items(*handed.KINDS) if item.part.earliest]
+    undone = [item.part.earliest for item in handed_in.items(*KINDS) if item.part.earliest]
     if undone:
         return min(undone)
     later = [date for date in working_days(office, last, handed_in) if date > last.date]
@@ -97,22 +95,15 @@ def last_day(office: Office) -> Event:
 def last_pair(office: Office) -> tuple[DayText, Report]:
     """The last day of a folder, and its report."""
     last = last_day(office)
-    for fault in office.changed_files(last):
-        raise fault
+    raise_first(office.changed_files(last))
     return past.read(past.pair_of(office, last), None)
 
 
 def filed_calendar(office: Office, event: Event) -> list[datetime.date]:
     """The working days of a filed day. Only its first rows are unpacked."""
-    path, days = past.as_filed(office, event, "day"), []
-    try:
-        with gzip.open(path, "rt", encoding="utf-8", errors="surrogateescape") as stream:
-            for line in itertools.takewhile(lambda row: not row.startswith(("account,", "do,", "end")), stream):
-                if line.startswith("work,"):
-                    days.append(datetime.date.fromisoformat(line.split(",")[1].strip()))
-    except (OSError, EOFError, zlib.error, ValueError) as error:
-        raise FileFault(path, 0, "", f"it cannot be read: {error}", "") from None
-    return days
+    lines = files.packed_lines(past.as_filed(office, event, "day"))
+    rows = itertools.takewhile(lambda row: not row.startswith(("account,", "do,", "end")), lines)
+    return [datetime.date.fromisoformat(row.split(",")[1]) for row in rows if row.startswith("work,")]
 
 
 @contextlib.contextmanager
@@ -139,15 +130,14 @@ def first_day(first: DayText, handed_in: HandedIn, date: datetime.date) -> NextD
     for kind in (CHANGES, EDITS, WORK):
         item = next(handed_in.items(kind), None)
         if item:
-            raise WordsFault(
-                f"place {item.place}: {kind} are for later days; correct the first text by ./day init in its place"
-            )
+            why = "are for later days; correct the first text by ./day init in its place"
+            raise WordsFault(f"place {item.place}: {kind} {why}")
     new = [*handed_in.items(DO)]
     next_day.check_count(first.head.next_record, len(first.instructions) + len(new))
     rows = [*first.source.rows[:-1], *(row for item in new for row in item.rows), "end"]
     items, notes = [*handed_in.items(FIRST), *new], [*about_first(first, new)]
-    text = handed.text_of_rows(rows)
-    return NextDay(date, first.head.next_record, text, [], [], items, contents_of(handed_in), notes)
+    contents, first_record = contents_of(handed_in), first.head.next_record
+    return NextDay(date, first_record, text_of_rows(rows), [], [], items, contents, notes)
 
 
 def about_first(first: DayText, new: list[Item]) -> Iterator[str]:
@@ -183,7 +173,7 @@ def later_day(office: Office, handed_in: HandedIn, date: datetime.date) -> NextD
         except EditFault as fault:
             place = next((item.place for item in handed_in.items(EDITS) if item.rows[0] == fault.edit.row()), None)
             raise EditFault(fault.edit, fault.why, place) from None
-        composed.notes = [*map(merged.with_origins, composed.notes)]
+        composed.notes = [merged.path.sub(merged.named, note) for note in composed.notes]
     return replace(composed, new=[*handed_in.items(DO)], contents=contents, before=(day, report))
 
 
@@ -214,7 +204,7 @@ def later_text(
     rows = heading
     rows += report.book_rows if book is report.book else [row for block in book.values() for row in block.rows]
     rows += [*(waits.instruction.row for waits in entered), *new.rows, "end"]
-    return NextDay(date, report.next_record, handed.text_of_rows(rows), waiting, entered, [], {}, notes.lines)
+    return NextDay(date, report.next_record, text_of_rows(rows), waiting, entered, [], {}, notes.lines)
 
 
 def about_past(before: DayText, calendar: list[datetime.date], head: rules.Day) -> Iterator[str]:
@@ -231,8 +221,3 @@ def head_of(heading: list[str]) -> rules.Day:
     for place in range(len(heading)):
         reader.add(place)
     return rules.day_of_fields(row.split(",") for row in heading)
-
-
-def asked_rules(day: DayText) -> list[rules.Logged]:
-    """What comes of each instruction of a day, by the second answer. Only the accounts that it asks for are read."""
-    return [*rules.settle(day.day())]

@@ -69,22 +69,23 @@ def add_words(parser: argparse.ArgumentParser) -> None:
 
 def run(said: argparse.Namespace) -> int:
     """Runs the command, and answers the exit status."""
-    who, why = words.one_line("--who", said.who), words.one_line("--why", said.why)
+    why = words.one_line("--why", said.why)
     date = dates.date_of("DATE", said.date)
     if not said.without and not said.files:
         raise WordsFault("nothing to correct: --without RECORD or --with FILE says what is wrong")
-    with folder.locked(said.office, "correct", who, folder.to_errors, said.seen, said.whom) as office:
+    with words.changing(said, "correct") as office:
         office.handed_in().remove_unnamed()
         must_be_open(office, date, said.without)
         without = [*dict.fromkeys(said.without)]
-        correction = Correction(office, date, without, said.files, who, why, said.second, said.verify)
+        correction = Correction(office, date, without, said.files, why, said.second, said.verify)
         with Change(office) as change, tempfile.TemporaryDirectory(ignore_cleanup_errors=True) as work:
             events, settled = made(correction, change, Path(work) / "shown", "")
             tell(correction, settled)
             if not said.yes:
                 print(f"{date} would be corrected so; nothing is, without --yes")
                 return FOUND
-            approved = approvals.let_through(office, "correct", date, asked_words(said), result_of(settled), who)
+            result = files.sum_of(b"".join(own.composed.text + own.report_text for own in settled))
+            approved = approvals.let_through(office, "correct", date, asked_words(said), result)
             if approved is None:
                 return FOUND
             if approved:
@@ -121,11 +122,6 @@ def asked_words(said: argparse.Namespace) -> str:
     for path in said.files:
         parts.append(f"--with {os.path.basename(path)} ({'; '.join(incoming.read(path).rows.rows)})")
     return " ".join([*parts, *(["--second"] if said.second else []), f"--why {said.why}"])
-
-
-def result_of(settled: list[Settled]) -> str:
-    """The sum of all that comes of it."""
-    return files.sum_of(b"".join(own.composed.text + own.report_text for own in settled))
 
 
 # Days that stay.

@@ -1,6 +1,5 @@
 """Closes settled days once more, aside: from a day on, without some of its instructions or with others. Each day is
-made
-of what was handed in for it, with who handed it in and when; the days that are there stay as they are.
+made of what was handed in for it, with who handed it in and when; the days that are there stay as they are.
 
 A day that is closed once more has other record numbers behind what was left out. A reversal that names one of them
 would reverse something else: that is refused.
@@ -11,18 +10,19 @@ from pathlib import Path
 from typing import Iterator
 
 from registry_tools.calendars.due_days import NOT_DUE
-from registry_tools.errors import FileFault, WordsFault
+from registry_tools.errors import FileFault, WordsFault, raise_first
 from registry_tools.office import (
-    close, composing, files, folder, hand_in, handed_files, incoming, journal, past, prepared, rebasing, undo,
-    whole_change,
+    close, composing, files, folder, hand_in, handed_files, incoming, past, prepared, undo, whole_change,
 )  # fmt: skip
+from registry_tools.office.changes.edits import place_of_row
 from registry_tools.office.close import Settled
 from registry_tools.office.folder import Office
 from registry_tools.office.handed import CHANGES, DO, FIRST, Approved, HandedIn, Taken
-from registry_tools.office.journal import FILES, UNDONE, Event, Journal
+from registry_tools.office.journal import FILES, UNDONE, Event, Journal, now
 from registry_tools.office.waits import waits_of, write_waits
 from registry_tools.progress import progress
 from registry_tools.texts.report import LogRow, Report
+from registry_tools.texts.rows import text_of_rows
 
 REVERSE = "reverse"
 # Of the day before, the report as it was and as it becomes.
@@ -49,7 +49,6 @@ class Correction:
     date: datetime.date
     without: list[int]
     paths: list[str]
-    who: str
     why: str
     by_second: bool = False
     verifies: bool = False
@@ -62,9 +61,8 @@ class Correction:
     def __post_init__(self) -> None:
         self.days = [event for event in self.office.journal.filed() if event.date >= self.date]
         for event in self.days:
-            for fault in (*self.office.changed_files(event), *self.office.strange_files(event)):
-                # (what is closed once more has to be what was filed, and nothing else is taken away with it)
-                raise fault
+            # (what is closed once more has to be what was filed, and nothing else is taken away with it)
+            raise_first([*self.office.changed_files(event), *self.office.strange_files(event)])
         self.before = [*past.read_all([past.pair_of(self.office, event) for event in self.days])]
         for record in self.without:
             self.logged(record)
@@ -75,10 +73,8 @@ class Correction:
             if event.first <= record < event.next:
                 return event, day.report.log[record - event.first]
         first, last = self.days[0], self.days[-1]
-        raise WordsFault(
-            f"--without {record}: {first.date} has the records {first.first} to {first.next - 1}, and the days behind "
-            f"it have them up to {last.next - 1}"
-        )
+        there = f"{first.date} has the records {first.first} to {first.next - 1}"
+        raise WordsFault(f"--without {record}: {there}, and the days behind it have them up to {last.next - 1}")
 
     def waited(self, record: int) -> str:
         """That a record waited since an earlier day, and the words by which it is left out of that one."""
@@ -103,8 +99,7 @@ class Correction:
             reports = (self.before[place - 1].report, settled[-1].report) if place else None
             own = self.closed(office, event, work / str(event.date), reports)
             files.make_folder(built / str(event.date))
-            filed = close.file_day(office, built / str(event.date), *own, self.who)
-            events.append(office.signed(filed, approved))
+            events.append(close.file_day(office, built / str(event.date), *own, approved))
             office.journal.add(events[-1])
             settled.append(own[1])
         progress.clear()
@@ -112,18 +107,14 @@ class Correction:
 
     def staged(self, built: Path) -> Staged:
         """The folder, of which the days from the date on are to be closed once more."""
-        old = self.office
-        lines = old.journal
+        old, lines = self.office, self.office.journal
         there = Journal(lines.path, lines.text, lines.columns, [*lines.events], [*lines.days])
-        return Staged(old.path, old.settings, there, old.aside, old.login, built)
+        return Staged(old.path, old.settings, there, old.aside, old.login, old.who, built)
 
     def taken_back(self, office: Staged, approved: str) -> Iterator[Event]:
         """The lines that take the days back, the last one first."""
         for last in reversed(self.days):
-            event = office.signed(Event(
-                UNDONE, journal.now(), self.who, last.date, last.first, last.next, last.sums, self.why,
-                office.journal.last_line,
-            ), approved)  # fmt: skip
+            event = office.event(UNDONE, last.date, last.first, last.next, self.why, last.sums, approved)
             office.journal.add(event)
             yield event
 
@@ -143,12 +134,11 @@ class Correction:
         """What was handed in for a day, without what is left out, and with what is added."""
         filed, contents = undo.filed_parts(self.office, event)
         # (what waited stands before what was handed in)
-        new = contents[DO].count(b"\n") + sum(part.count for part in filed.parts if part.kind == FIRST)
-        begin = event.next - new
+        begin = event.next - contents[DO].count(b"\n") - (filed.first.count if filed.first else 0)
         for record in sorted((own for own in self.without if event.first <= own < event.next), reverse=True):
             self.leave_out(record, record - begin, filed, contents)
         if reports:
-            contents[CHANGES], changed = rebasing.rebased(contents[CHANGES], *reports)
+            contents[CHANGES], changed = rebased(contents[CHANGES], *reports)
             whole = "was handed in as a whole, and comes with what it holds by then"
             self.notes += [f"{event.date}: account {number} {whole}" for number in changed]
         own = handed_files.again(place, office.journal.last_line, filed, contents, event.date)
@@ -157,24 +147,22 @@ class Correction:
         if event.date == self.date:
             here = hand_in.Here(own)
             for path in self.paths:
-                hand_in.add(self.office, here, incoming.read(path), self.who)
+                hand_in.add(self.office, here, incoming.read(path), self.office.who)
         return own
 
     def leave_out(self, record: int, place: int, filed: HandedIn, contents: dict[str, bytes]) -> None:
         """Takes an instruction out of what was handed in for a day, by its place there."""
         if place < 0:
             raise WordsFault(self.waited(record))
-        first = next((part for part in filed.parts if part.kind == FIRST), None)
+        first = filed.first
         count = first.count if first else 0
         if first and place < count:
             contents[FIRST] = without_row(contents[FIRST], place)
             first.count -= 1
             return
         contents[DO] = without_row(contents[DO], place - count)
-        gone = {taking.place for taking in filed.taken}
-        there = [own for part in filed.parts if part.kind == DO for own in range(part.start, part.end)]
-        left = [each for each in there if each not in gone]
-        filed.taken.append(Taken(journal.now(), self.who, left[place - count], self.why, self.office.login))
+        left = [own for part in filed.parts if part.kind == DO for own in filed.left_of(part)]
+        filed.taken.append(Taken(now(), self.office.who, left[place - count], self.why, self.office.login))
 
     # What it would make of the numbers of records.
 
@@ -192,10 +180,8 @@ class Correction:
             number = int(fields[6])
             was, becomes = old.get(number), new.get(number)
             if (was and was.instruction.row) != (becomes and becomes.instruction.row):
-                raise WordsFault(
-                    f"record {number} would be another one, and {row} names it: leave that reversal out too, and hand "
-                    "it in once more for a later day"
-                )
+                what = "leave that reversal out too, and hand it in once more for a later day"
+                raise WordsFault(f"record {number} would be another one, and {row} names it: {what}")
 
 
 def without_row(content: bytes, place: int) -> bytes:
@@ -208,8 +194,7 @@ def without_row(content: bytes, place: int) -> bytes:
 
 def approved_again(filed: HandedIn, again: HandedIn) -> Iterator[Approved]:
     """Who approved what is handed in once more: it has other places."""
-    gone = {taking.place for taking in filed.taken}
-    old = [part for part in filed.parts if part.kind == FIRST or not gone.issuperset(range(part.start, part.end))]
+    old = [part for part in filed.parts if part.kind == FIRST or filed.left_of(part)]
     for before, part in zip(old, again.parts):
         yield from (replace(own, place=part.start) for own in filed.approved if own.place == before.start)
 
@@ -217,9 +202,40 @@ def approved_again(filed: HandedIn, again: HandedIn) -> Iterator[Approved]:
 def keep(correction: Correction, change: whole_change.Change, events: list[Event], settled: Settled) -> None:
     """Has the new days count, with what was handed in since: in one step."""
     since = correction.office.handed_in()
-    there = handed_files.begin(change.make(prepared.NEW_NEXT), events[-1].line)
+    there = HandedIn(change.make(prepared.NEW_NEXT), events[-1].line)
     handed_files.put_left(there, since, since.parts)
     waiting = change.folder / prepared.NEW_DAYS / str(events[-1].date) / FILES["waiting"]
     write_waits(there.folder, settled.day, settled.report, str(waiting))
     there.keep()
     change.keep(*events)
+
+
+# Accounts that were handed in as a whole: what a hand changed is laid over the account as it stands now. So it has what
+# it holds by then, and the record numbers of then.
+
+
+def rebased(content: bytes, old: Report, new: Report) -> tuple[bytes, list[int]]:
+    """Blocks that were made of the accounts of one report, as they are made of those of another one, and the accounts
+    whose blocks are other ones now."""
+    rows: list[str] = []
+    changed = []
+    for block in handed_files.items_of_text(Path("changes.csv"), CHANGES, content):
+        number = int(block[0].split(",")[1])
+        now = block
+        if number in old.book and number in new.book:
+            now = laid_over(block, old.book[number].rows, new.book[number].rows)
+        if now != block:
+            changed.append(number)
+        rows += now
+    return text_of_rows(rows) if changed else content, changed
+
+
+def laid_over(block: list[str], old: list[str], new: list[str]) -> list[str]:
+    """The rows of an account with what a hand changed: what differs between `old` and the block."""
+    fields = [
+        given if given != before else now
+        for given, before, now in zip(block[0].split(","), old[0].split(","), new[0].split(","))
+    ]
+    gone, come = {*old[1:]} - {*block[1:]}, [row for row in block[1:] if row not in old[1:]]
+    left = [row for row in new[1:] if row not in gone and row not in come]
+    return [",".join(fields), *sorted([*left, *come], key=place_of_row)]

@@ -4,6 +4,7 @@ import itertools
 from typing import Iterator
 
 from registry_tools.errors import FileFault, WordsFault
+from registry_tools.notes import first_of
 from registry_tools.office.close import Settled
 from registry_tools.office.past import PastDay
 from registry_tools.calendars.due_days import NOT_DUE
@@ -27,13 +28,7 @@ def all_differences(before: PastDay, after: Settled) -> list[str]:
         of_instructions(before.report, after.report), of_accounts(before.report, after.report),
         of_compliance(before, after), of_waiting(before.report, after.report),
     )  # fmt: skip
-    return [line for part in parts for line in first_lines([*part])]
-
-
-def first_lines(lines: list[str]) -> list[str]:
-    """The first lines, and how many more there are."""
-    more = len(lines) - MOST_SHOWN
-    return [*lines[:MOST_SHOWN], *([f"and {more} more"] if more > 0 else [])]
+    return [line for part in parts for line in first_of([*part], MOST_SHOWN)]
 
 
 # Instructions.

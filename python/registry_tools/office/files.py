@@ -9,11 +9,13 @@ import hashlib
 import io
 import os
 import shutil
+import zlib
+from collections.abc import Iterator
 from pathlib import Path
 
 from registry_tools import steps
-from registry_tools.errors import FileFault
-from registry_tools.output import cannot, write_all
+from registry_tools.errors import of_file
+from registry_tools.output import cannot, write_all, writing
 
 COMPRESSED = ".gz"
 # How hard `gzip` tries: a higher level takes three times as long for a tenth less.
@@ -43,7 +45,16 @@ def bytes_in(path: Path) -> bytes:
     try:
         return path.read_bytes()
     except OSError as error:
-        raise FileFault(path, 0, "", f"it cannot be read: {error.strerror}", "") from None
+        raise of_file(path, f"it cannot be read: {error.strerror}") from None
+
+
+def packed_lines(path: Path) -> Iterator[str]:
+    """The lines of a packed file: only what is asked for is unpacked."""
+    try:
+        with gzip.open(path, "rt", encoding="utf-8", errors="surrogateescape") as stream:
+            yield from (line.rstrip("\n") for line in stream)
+    except (OSError, EOFError, zlib.error) as error:
+        raise of_file(path, f"it cannot be read: {error}") from None
 
 
 def listed(path: Path) -> list[Path]:
@@ -51,7 +62,7 @@ def listed(path: Path) -> list[Path]:
     try:
         return sorted(path.iterdir())
     except OSError as error:
-        raise FileFault(path, 0, "", f"it cannot be read: {error.strerror}", "") from None
+        raise of_file(path, f"it cannot be read: {error.strerror}") from None
 
 
 def sync_folder(path: Path) -> None:
@@ -65,7 +76,7 @@ def sync_folder(path: Path) -> None:
 
 def write_synced(path: Path, content: bytes, mode: int | None = None) -> None:
     """Writes a file whose name nobody asks for yet. With a mode it is a new one, of this user."""
-    try:
+    with writing(path):
         if mode is not None:
             path.unlink(missing_ok=True)
         how = os.O_TRUNC if mode is None else os.O_EXCL
@@ -78,8 +89,6 @@ def write_synced(path: Path, content: bytes, mode: int | None = None) -> None:
             os.fsync(file)
         finally:
             os.close(file)
-    except OSError as error:
-        raise cannot(path, error) from None
 
 
 def beside(path: Path) -> Path:
@@ -96,11 +105,10 @@ def remove_beside(path: Path) -> None:
 def replace(path: Path, content: bytes) -> None:
     """Puts a file in the place of the one that has this name: in one step."""
     try:
-        write_synced(beside(path), content)
-        os.replace(beside(path), path)
-        sync_folder(path.parent)
-    except OSError as error:
-        raise cannot(path, error) from None
+        with writing(path):
+            write_synced(beside(path), content)
+            os.replace(beside(path), path)
+            sync_folder(path.parent)
     finally:
         remove_beside(path)
 
@@ -126,21 +134,17 @@ def step(path: Path, content: bytes, mode: int | None = None) -> str:
 
 def make_folder(path: Path) -> None:
     """Makes a folder. Raises FileFault if that cannot be done."""
-    try:
+    with writing(path):
         path.mkdir()
-    except OSError as error:
-        raise cannot(path, error) from None
 
 
 def move(old: Path, new: Path) -> None:
     """Gives a file or folder another name."""
-    try:
+    with writing(new):
         os.rename(old, new)
         sync_folder(new.parent)
         if old.parent != new.parent:
             sync_folder(old.parent)
-    except OSError as error:
-        raise cannot(new, error) from None
 
 
 def sync_tree(path: Path) -> None:

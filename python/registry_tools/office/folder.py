@@ -17,12 +17,10 @@ import os
 import sys
 from dataclasses import dataclass
 from pathlib import Path
-from typing import Callable, Iterator
+from typing import Iterator
 
-from registry_tools.errors import FileFault, WordsFault, shown
-from registry_tools.office import (
-    approvals, files, handed, handed_journal, journal, lock, people, prepared, settings, sources,
-)  # fmt: skip
+from registry_tools.errors import FileFault, WordsFault, of_file, raise_first, shown
+from registry_tools.office import approvals, files, handed, handed_journal, journal, lock, prepared, settings, sources
 from registry_tools.office.journal import Event, Journal
 from registry_tools.office.layout import DAYS, JOURNAL, LABELS, NEXT, PAPERS, SETTINGS, TABLES
 from registry_tools.office.people import People
@@ -54,8 +52,9 @@ class Office:
     journal: Journal
     # Where an index is made for somebody who only looks, if that of the folder is not up to the journal.
     aside: Path | None = None
-    # The login that changes it.
+    # The login that changes it, and the name that was given.
     login: str = ""
+    who: str = ""
 
     @property
     def next_folder(self) -> Path:
@@ -95,7 +94,7 @@ class Office:
         try:
             there = files.sum_of(files.bytes_in(path))
         except FileFault as fault:
-            return FileFault(path, 0, "", f"{fault.found}; {PUT_BACK}", "")
+            return of_file(path, f"{fault.found}; {PUT_BACK}")
         expected = f"{filed}, as {self.journal.path} says: somebody changed it; {PUT_BACK}"
         return None if there == filed else FileFault(path, 0, "SHA-256", there, expected)
 
@@ -104,13 +103,11 @@ class Office:
         folder = self.day_folder(event.date)
         tables = {own.file for own in self.sources_of(event)}
         known = {*PAPERS, *journal.FILES.values(), *([TABLES] if tables else [])}
-        inside = files.listed(folder / TABLES) if tables and (folder / TABLES).is_dir() else []
-        for path in files.listed(folder) if folder.is_dir() else ():
-            if path.name not in known:
-                yield FileFault(path, 0, "", "a file that does not belong here", "no such file")
-        for path in inside:
-            if path.name not in tables:
-                yield FileFault(path, 0, "", "a file that does not belong here", "no such file")
+        there = [path for path in (files.listed(folder) if folder.is_dir() else ()) if path.name not in known]
+        if tables and (folder / TABLES).is_dir():
+            there += [path for path in files.listed(folder / TABLES) if path.name not in tables]
+        for path in there:
+            yield FileFault(path, 0, "", "a file that does not belong here", "no such file")
 
     def sources_of(self, event: Event) -> list[Source]:
         """The tables that were handed in for a day; none, if what tells them is not as it was filed."""
@@ -131,8 +128,7 @@ class Office:
     def kept_labels_sum(self) -> str:
         """The same, for a line of the journal: what commands keep, nobody changes by hand without a word."""
         if self.is_labelled():
-            for fault in self.changed_labels():
-                raise fault
+            raise_first(self.changed_labels())
         return self.labels_sum()
 
     def is_labelled(self) -> bool:
@@ -149,9 +145,15 @@ class Office:
             expected = f"{last.labels}, as {self.journal.path} says of {last.date}: {meant}"
             yield FileFault(self.path / LABELS, 0, "SHA-256", there or "no file", expected)
 
-    def signed(self, event: Event, approved: str = "") -> Event:
-        """A line of the journal with the login that writes it, and who approved it."""
-        return event._replace(login=self.login, approved=approved, people=self.people.sum())
+    def event(
+        self, what: str, date: datetime.date, first: int, behind: int, why: str = "",
+        sums: dict[str, str] | None = None, approved: str = "", labels: str = "", engine: str = "",
+    ) -> Event:  # fmt: skip
+        """The next line of the journal, with the login that writes it, and who approved it."""
+        return Event(
+            what, journal.now(), self.who, date, first, behind, sums or {}, why, self.journal.last_line, labels, engine,
+            self.login, approved, self.people.sum(),
+        )  # fmt: skip
 
     def handed_in(self) -> handed.HandedIn:
         """What was handed in for the next day. Raises FileFault if it is of another last day."""
@@ -188,41 +190,22 @@ def read_office(path: Path) -> Office:
     return Office(path, settings.read(path / SETTINGS), journal.read(path / JOURNAL))
 
 
-def opened(word: str | None, tell: Callable[[str], None]) -> Office:
+def opened(word: str | None) -> Office:
     """A folder that is only looked at. What an interrupted command left is put right before, if no command works on it
     now."""
     path = folder_of(word)
-    put_right_if_free(path, tell)
+    put_right_if_free(path)
     return read_office(path)
 
 
-def put_right_if_free(path: Path, tell: Callable[[str], None]) -> None:
+def put_right_if_free(path: Path) -> None:
     """Puts right what an interrupted command left, if no command works on the folder now."""
     if prepared.has_leftovers(path) and not lock.is_held(path / lock.NAME):
         try:
             with lock.held(path, "look", user_name()):
-                prepared.put_right(path, tell)
+                prepared.put_right(path, to_errors)
         except FileFault as fault:
-            tell(f"{path}: what an interrupted command left is still there: {fault}")
-
-
-@contextlib.contextmanager
-def locked(
-    word: str | None, command: str, who: str, tell: Callable[[str], None], seen: str | None = None,
-    whom: str | None = None,
-) -> Iterator[Office]:  # fmt: skip
-    """A folder that is changed in the block, with its lock. What an interrupted command left is put right before. Ends
-    the command if somebody has `seen` the folder in another state than it is in now, or if office.ini does not allow
-    the command to this login, or to the one for `whom` it speaks."""
-    path = folder_of(word)
-    with lock.held(path, command, who):
-        prepared.put_right(path, tell)
-        office = read_office(path)
-        office.login = people.login_for(office.settings.people, whom)
-        people.must_be_allowed(office.settings.people, office.login, command)
-        if seen is not None and seen != state_of(office):
-            raise WordsFault("the folder has changed since it was looked at, and nothing was done: look once more")
-        yield office
+            to_errors(f"{path}: what an interrupted command left is still there: {fault}")
 
 
 def state_of(office: Office) -> str:
@@ -235,6 +218,18 @@ def state_of(office: Office) -> str:
     return f"{office.journal.last_line}.{len(there.parts)}.{len(there.taken)}.{files.sum_of(content)[:16]}"
 
 
+def done_since(office: Office, state: str) -> Iterator[str]:
+    """What was done behind a state of the folder that somebody has seen, in words."""
+    line, parts, taken, _ = state.split(".")
+    there, lines = office.handed_in(), [event.line for event in office.journal.events]
+    for event in office.journal.events[lines.index(line) + 1 if line in lines else 0 :]:
+        yield f"{event.date} was {event.event} by {event.who}{f': {event.why}' if event.why else ''}"
+    is_same = office.journal.last_line == line
+    yield from (f"{part.name} was handed in by {part.who}" for part in there.parts[int(parts) if is_same else 0 :])
+    for own in there.taken[int(taken) if is_same else 0 :]:
+        yield f"place {own.place} was taken back by {own.who}: {own.why}"
+
+
 def tell_left(what: str, left: str) -> None:
     """Tells that something is done, if something was left behind its one step."""
     if left:
@@ -244,6 +239,3 @@ def tell_left(what: str, left: str) -> None:
 def to_errors(line: str) -> None:
     """Writes a line to standard error."""
     print(line, file=sys.stderr)
-
-
-# Changing it in one step.

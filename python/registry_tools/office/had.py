@@ -1,15 +1,12 @@
 """What a folder has had: instructions and what came of them, accounts, and files, of all settled days."""
-import gzip
 import re
-import zlib
 from dataclasses import dataclass
 from typing import Iterator
 
 from registry_tools.calendars.due_days import NOT_DUE
-from registry_tools.errors import FileFault
 from registry_tools.office import files, handed_files, handed_journal, past
 from registry_tools.office.folder import Office
-from registry_tools.office.handed import CHANGES, HandedIn
+from registry_tools.office.handed import CHANGES
 from registry_tools.office.journal import Event
 
 # A log row: its record number, the fields of the instruction, and for a refused one the name of the check.
@@ -24,11 +21,6 @@ class Had:
     record: str
     # The name of the check that refused it; nothing, if it is done.
     refused: str
-
-    @property
-    def may_come_again(self) -> bool:
-        """Whether the instruction was refused for good, so that it may come again."""
-        return self.refused not in ("", NOT_DUE)
 
     def __str__(self) -> str:
         how = f"refused as record {self.record}, {self.refused}" if self.refused else f"done as record {self.record}"
@@ -54,17 +46,12 @@ def logged_of(office: Office, event: Event, rows: set[str]) -> Iterator[tuple[st
     """What the log of a day says of these `do` rows."""
     if not rows:
         return
-    path = past.as_filed(office, event, "report")
-    try:
-        with gzip.open(path, "rt", encoding="utf-8", errors="surrogateescape") as stream:
-            for line in stream:
-                logged = LOGGED.fullmatch(line.rstrip("\n"))
-                if logged is None:
-                    return
-                if f"do,{logged[2]}" in rows:
-                    yield f"do,{logged[2]}", Had(str(event.date), logged[1], logged[3] or "")
-    except (OSError, EOFError, zlib.error) as error:
-        raise FileFault(path, 0, "", f"it cannot be read: {error}", "") from None
+    for line in files.packed_lines(past.as_filed(office, event, "report")):
+        logged = LOGGED.fullmatch(line)
+        if logged is None:
+            return
+        if f"do,{logged[2]}" in rows:
+            yield f"do,{logged[2]}", Had(str(event.date), logged[1], logged[3] or "")
 
 
 def accounts_had(office: Office) -> dict[tuple[str, ...], str]:
@@ -80,12 +67,7 @@ def accounts_had(office: Office) -> dict[tuple[str, ...], str]:
 def file_had(office: Office, sum_of_file: str) -> str:
     """Where a file with this sum was handed in before, in words; nothing, if it never was."""
     for event in office.journal.filed():
-        for part in handed_of(office, event).parts:
+        for part in handed_journal.read_journal(past.as_filed(office, event, "handed")).parts:
             if part.sum == sum_of_file:
                 return f"for {event.date}, by {part.who} at {part.at} as {part.name}"
     return ""
-
-
-def handed_of(office: Office, event: Event) -> HandedIn:
-    """What was handed in for a settled day."""
-    return handed_journal.read_journal(past.as_filed(office, event, "handed"))

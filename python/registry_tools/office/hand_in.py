@@ -17,10 +17,10 @@ from dataclasses import dataclass, field
 from pathlib import Path
 from typing import NamedTuple, Sequence
 
+from registry_tools.calendars.due_days import NOT_DUE
 from registry_tools.errors import FileFault, WordsFault
 from registry_tools.office import (
-    approvals, awaited, composing, files, folder, had, handed, handed_files, incoming, labels, people, trial,
-    words,
+    approvals, awaited, composing, files, folder, had, handed, handed_files, incoming, labels, people, trial, words,
 )  # fmt: skip
 from registry_tools.office.composing import NextDay
 from registry_tools.office.folder import Office
@@ -43,12 +43,12 @@ def add_words(parser: argparse.ArgumentParser) -> None:
 
 def run(said: argparse.Namespace) -> int:
     """Runs the command, and answers the exit status."""
-    who, forms = words.one_line("--who", said.who), incoming.forms_of(said)
-    with folder.locked(said.office, "hand-in", who, folder.to_errors, said.seen, said.whom) as office:
+    forms = incoming.forms_of(said)
+    with words.changing(said, "hand-in") as office:
         handed_in = office.handed_in()
         handed_in.remove_unnamed()
         try:
-            added = look_at(office, handed_in, said.files, who, said.again, forms)
+            added = look_at(office, handed_in, said.files, office.who, said.again, forms)
             left = handed_in.make_count()
         except BaseException:
             # (what does not count is taken away at once)
@@ -56,7 +56,8 @@ def run(said: argparse.Namespace) -> int:
             raise
         folder.tell_left("handed in", left)
         for part in added.parts:
-            print(f"handed in: {part.name}: {words_of_count(part)}, {places(part.start, part.end)}")
+            count, there = f"{handed.NAMES[part.kind]} {part.count}", places(part.start, part.end)
+            print(f"handed in: {part.name}: {count}, {there}")
         awaited.tell_new(office, added.parts)
         print("".join(f"again: {line}\n" for line in added.again), end="")
         return trial.tell(added.looked, added.next_day, added.places())
@@ -89,17 +90,6 @@ def look_at(
     names = labels.of_folder(office.path)
     looked = trial.look(next_day, next_day.day(office.next_folder / "the next day"), names)
     return Added(parts, next_day, looked, here.told)
-
-
-def words_of_count(part: Part) -> str:
-    """How many items a file has, with their word."""
-    names = {
-        handed.DO: "instructions",
-        handed.CHANGES: "accounts",
-        handed.WORK: "working days",
-        handed.EDITS: "changes",
-    }
-    return f"{names[part.kind]} {part.count}"
 
 
 def meant_again(paths: list[str], words: Sequence[str]) -> tuple[set[tuple[str, int]], set[int]]:
@@ -179,7 +169,7 @@ def refuse(office: Office, here: Here, own: Incoming, line: int, what: tuple[str
     if here.takes(path, line, before):
         return
     checksum = files.sum_of(own.content)
-    same = next((part for part in there.parts if part.sum == checksum and is_there(there, part)), None)
+    same = next((part for part in there.parts if part.sum == checksum and there.left_of(part)), None)
     when = f"by {same.who} at {same.at} as {same.name}" if same else had.file_had(office, checksum)
     more = f"--again {path}:{line} hands in once more what stands there"
     if when:
@@ -192,18 +182,13 @@ def refuse(office: Office, here: Here, own: Incoming, line: int, what: tuple[str
     raise fault
 
 
-def is_there(handed_in: HandedIn, part: Part) -> bool:
-    """Whether something of a file was not taken back."""
-    gone = {taking.place for taking in handed_in.taken}
-    return any(place not in gone for place in range(part.start, part.end))
-
-
 def refuse_instructions(office: Office, here: Here, own: Incoming) -> None:
     """Ends the command at an instruction that is there already, or is done."""
     source = own.rows
     rows = {row for row in source.rows if row != "end"}
+    # (what was refused for good may come again)
     there = {
-        row: Before(f"one that {earlier}: {row}", None, earlier.may_come_again)
+        row: Before(f"one that {earlier}: {row}", None, earlier.refused not in ("", NOT_DUE))
         for row, earlier in had.instructions_had(office, rows).items()
     }
     for row in rows & {waits.instruction.row for waits in waits_of(office)}:

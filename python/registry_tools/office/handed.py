@@ -34,6 +34,8 @@ from registry_tools.texts.rows import rows_of
 
 NAME = "journal.csv"
 FIRST, DO, CHANGES, EDITS, WORK = KINDS = ("first", "do", "changes", "edits", "work")
+# What the items of a kind are called.
+NAMES = {DO: "instructions", CHANGES: "accounts", EDITS: "changes", WORK: "working days"}
 # A file that was handed in, and those that a command makes here, or begins to make.
 FILE = re.compile(r"[0-9]{4,}-[a-z]+\.csv", re.ASCII)
 OWN_FILE = re.compile(rf"{FILE.pattern}|{sources.NAME.pattern}|\..*\.new")
@@ -167,10 +169,10 @@ class HandedIn:
         """Whether a file stays here when this day is filed."""
         return part.is_of_later(date) or part in self.waiting
 
-    def counts(self, part: Part) -> bool:
-        """Whether something of a file was not taken back."""
+    def left_of(self, part: Part) -> list[int]:
+        """The places of a file that were not taken back."""
         gone = {taking.place for taking in self.taken}
-        return any(place not in gone for place in range(part.start, part.end))
+        return [place for place in range(part.start, part.end) if place not in gone]
 
     def items(self, *kinds: str) -> Iterator[Item]:
         """What counts of these kinds, in order."""
@@ -179,10 +181,14 @@ class HandedIn:
             if part.kind in kinds:
                 yield from (item for item in items_of(self.folder, part) if item.place not in gone)
 
+    @property
+    def first(self) -> Part | None:
+        """The file of the first day text, if it is here."""
+        return next((part for part in self.parts if part.kind == FIRST), None)
+
     def first_text(self) -> DayText | None:
         """The first day text, if it is here."""
-        part = next((part for part in self.parts if part.kind == FIRST), None)
-        return day_of(rows_of(self.folder / part.file)) if part else None
+        return day_of(rows_of(self.folder / self.first.file)) if self.first else None
 
     def sources(self) -> Iterator[Source]:
         """What the rows of tables were made of."""
@@ -240,8 +246,3 @@ def begins_item(kind: str, row: str) -> bool:
     """Whether a row is the first one of an item."""
     begins = {DO: ("do,",), CHANGES: ("account,",), EDITS: ("account,", "rules,"), WORK: ("work,",)}
     return row.startswith(begins[kind])
-
-
-def text_of_rows(rows: list[str]) -> bytes:
-    """Rows as the content of a file; nothing, if there are none."""
-    return "\n".join([*rows, ""]).encode("utf-8", "surrogateescape")

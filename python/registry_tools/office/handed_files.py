@@ -6,15 +6,10 @@ from typing import Iterable, Iterator
 from registry_tools.errors import FileFault, visible
 from registry_tools.office import journal, sources
 from registry_tools.office.files import sum_of, write_synced
-from registry_tools.office.handed import FIRST, KINDS, HandedIn, Part, begins_item, text_of_rows
+from registry_tools.office.handed import FIRST, KINDS, HandedIn, Part, begins_item
 from registry_tools.office.layout import TABLES
 from registry_tools.office.sources import Original
-from registry_tools.texts.rows import rows_of_text
-
-
-def begin(folder: Path, base: str) -> HandedIn:
-    """An empty next/ behind a line of the journal."""
-    return HandedIn(folder, base)
+from registry_tools.texts.rows import rows_of_text, text_of_rows
 
 
 def put(
@@ -53,14 +48,13 @@ def put_left(handed: HandedIn, old: HandedIn, parts: Iterable[Part]) -> None:
 def again(folder: Path, base: str, filed: HandedIn, contents: dict[str, bytes], date: datetime.date) -> HandedIn:
     """Puts into an empty next/ what an undone day was made of: what was not taken back, with who handed in each
     file."""
-    handed = begin(folder, base)
-    gone = {taking.place for taking in filed.taken}
+    handed = HandedIn(folder, base)
     left = {kind: items_of_text(filed.folder / f"{kind}.csv", kind, contents[kind]) for kind in KINDS if kind != FIRST}
     for part in filed.parts:
         if part.kind == FIRST:
             put_again(handed, part, contents[FIRST], part.count, date, filed.folder)
             continue
-        count = sum(place not in gone for place in range(part.start, part.end))
+        count = len(filed.left_of(part))
         rows = [row for _ in range(count) for row in next_item(left[part.kind], filed.folder / f"{part.kind}.csv")]
         if count:
             put_again(handed, part, text_of_rows(rows), count, date, filed.folder / TABLES)

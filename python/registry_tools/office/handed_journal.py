@@ -5,7 +5,7 @@ import io
 from pathlib import Path
 from typing import Iterator
 
-from registry_tools.errors import FileFault, shown
+from registry_tools.errors import FileFault, raise_first, shown
 from registry_tools.office import sources
 from registry_tools.office.files import bytes_in, sum_of
 from registry_tools.office.handed import (
@@ -25,21 +25,15 @@ def read(folder: Path) -> HandedIn:
     for part in handed.parts:
         there = sum_of(bytes_in(folder / part.file))
         if there != part.sum:
-            raise FileFault(
-                folder / part.file, 0, "SHA-256", there, f"{part.sum}: somebody changed it after it was handed in"
-            )
-        count = count_in(folder / part.file, part.kind)
+            expected = f"{part.sum}: somebody changed it after it was handed in"
+            raise FileFault(folder / part.file, 0, "SHA-256", there, expected)
+        kind = DO if part.kind == FIRST else part.kind
+        count = sum(begins_item(kind, row) for row in rows_of(folder / part.file).rows)
         if count != part.count:
             raise FileFault(path, 0, "COUNT", f"{part.count} for {part.file}", f"{count}: so many stand in it")
-    for fault in filter(None, (sources.changed(folder / own.file, own) for own in handed.sources())):
-        raise fault
+    raise_first(sources.changed(folder / own.file, own) for own in handed.sources())
     handed.must_be_of_commands()
     return handed
-
-
-def count_in(path: Path, kind: str) -> int:
-    """How many items a file has."""
-    return sum(begins_item(DO if kind == FIRST else kind, row) for row in rows_of(path).rows)
 
 
 def read_journal(path: Path) -> HandedIn:

@@ -6,25 +6,21 @@ import os
 from collections.abc import Sequence
 from dataclasses import dataclass
 
-from registry_tools import tables
 from registry_tools.errors import FileFault, shown
-from registry_tools.office import handed
 from registry_tools.office.handed import CHANGES, DO, WORK, begins_item
 from registry_tools.office.sources import MAPPING, TABLE, Original
 from registry_tools.second import faults
 from registry_tools.sheets import columns, importing, sheets
 from registry_tools.sheets.mapping import Mapping
 from registry_tools.sheets.table import OTHER_HEADINGS
-from registry_tools.texts.day_text import read_blocks, read_rows_of
-from registry_tools.texts.rows import Rows, bytes_of, packed_bytes_of, rows_of, rows_of_text
+from registry_tools.texts.day_text import read_blocks, read_rows_of, reading_of_any_day
+from registry_tools.texts.rows import Rows, bytes_of, packed_bytes_of, rows_of, rows_of_text, text_of_rows
 
 UTF_16 = (b"\xff\xfe", b"\xfe\xff")
 TAGS = ("do", "work", "account")
 COLUMNS = {*columns.INSTRUCTION_COLUMNS, *columns.ACCOUNT_COLUMNS}
 # The first row of a table is not longer.
 FIRST_BYTES = 65_536
-# What is tried by a reader of its own has no record number or period yet: all are allowed here, and tried in the day.
-ANY_YEARS = [*range(tables.MOST_PERIODS)]
 EMPTY_TABLE = f"./day form makes an empty table, and {OTHER_HEADINGS}"
 EXPECTED = f"rows do, work or account in the first row: what is to be handed in; or the names of columns: {EMPTY_TABLE}"
 
@@ -63,14 +59,14 @@ class Incoming:
 
 
 class TableFault(FileFault):
-    """All that is wrong with the cells of a table."""
+    """All that is wrong with the cells of a table, and what did not come of it."""
 
-    def __init__(self, path: str, wrong: list[FileFault]) -> None:
+    def __init__(self, path: str, wrong: list[FileFault], end: str = "nothing was handed in") -> None:
         super().__init__(path, 0, "", "", "")
-        self.wrong = wrong
+        self.wrong, self.end = wrong, end
 
     def __str__(self) -> str:
-        return "\n".join(importing.told(self.wrong, "nothing was handed in"))
+        return "\n".join(importing.told(self.wrong, self.end))
 
 
 def add_words(parser: argparse.ArgumentParser) -> None:
@@ -113,7 +109,7 @@ def read_table(path: str, content: bytes, forms: Forms) -> Incoming:
         own = forms.mapping.path
         originals.append(Original(MAPPING, ".ini", packed_bytes_of(own), os.path.basename(own)))
     checked_count(Rows(path, [*rows.rows], rows.lines), kind)
-    return Incoming(path, kind, rows, len(made.made), handed.text_of_rows(made.rows), originals)
+    return Incoming(path, kind, rows, len(made.made), text_of_rows(made.rows), originals)
 
 
 def is_table(content: bytes) -> bool:
@@ -151,5 +147,4 @@ def checked_count(path: str | Rows, kind: str) -> int:
         return len(read_rows_of("do", path, faults.Reading(last="do")))
     if kind == WORK:
         return len(read_rows_of("work", path, faults.Reading(last="lags")))
-    reading = faults.Reading(last="work", version=2, next_record=tables.MOST_RECORD + 1, last_years=ANY_YEARS)
-    return len(read_blocks(path, reading))
+    return len(read_blocks(path, reading_of_any_day()))

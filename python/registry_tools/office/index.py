@@ -15,15 +15,14 @@ import sqlite3
 from collections.abc import Iterable, Iterator
 from pathlib import Path
 
-from registry_tools.errors import FileFault, shown
+from registry_tools.errors import FileFault, of_file, shown
 from registry_tools.office import daybase, files, past
 from registry_tools.office.folder import Office
 from registry_tools.office.journal import Event
 from registry_tools.office.layout import INDEX
 from registry_tools.office.past import PastDay
 from registry_tools.progress import progress
-from registry_tools.texts.day_text import DayText
-from registry_tools.texts.report import Report
+from registry_tools.texts.rows import text_of_rows
 
 # The layout of the tables: another one is made anew.
 LAYOUT = 1
@@ -51,7 +50,7 @@ def opened(
             yield database
     except sqlite3.Error as error:
         why = f"it cannot be read or written: {error}; take it away, and it is made anew"
-        raise FileFault(path_of(office), 0, "", why, "") from None
+        raise of_file(path_of(office), why) from None
 
 
 def must_be_as_filed(database: sqlite3.Connection, office: Office, begin: datetime.date, end: datetime.date) -> None:
@@ -198,12 +197,8 @@ def add(database: sqlite3.Connection, office: Office, event: Event, past_day: Pa
 
 def sums_of_pair(past_day: PastDay) -> tuple[str, str]:
     """The sums of a pair: a filed text is its rows, each with a line end."""
-    return sum_of_text(past_day.day), sum_of_text(past_day.report)
-
-
-def sum_of_text(text: DayText | Report) -> str:
-    """The sum of a text, as its file would have it."""
-    return files.sum_of("\n".join([*text.source.rows, ""]).encode("utf-8", "surrogateescape"))
+    day, report = (files.sum_of(text_of_rows(text.source.rows)) for text in (past_day.day, past_day.report))
+    return day, report
 
 
 def keep_up(office: Office, event: Event, past_day: PastDay) -> None:

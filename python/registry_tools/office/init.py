@@ -16,7 +16,7 @@ from registry_tools.office.layout import DAYS, JOURNAL, NEXT, SETTINGS
 from registry_tools.office.settings import Settings
 from registry_tools.output import NewFolder
 from registry_tools.texts.day_text import DayText, day_of
-from registry_tools.texts.rows import bytes_of, rows_of_text
+from registry_tools.texts.rows import bytes_of, rows_of_text, text_of_rows
 
 EXAMPLE = "./day init out/office examples/week/monday.csv"
 
@@ -38,12 +38,12 @@ def run(said: argparse.Namespace) -> int:
     content = bytes_of(said.first)
     text = content.decode("utf-8-sig", "surrogateescape")
     first = day_of(rows_of_text(said.first, text))
-    content = handed.text_of_rows(first.source.rows)
+    content = text_of_rows(first.source.rows)
     program = program_of(said.program)
     settings = Settings(program, said.statements, said.pages)
     path = Path(said.folder)
     if (path / SETTINGS).is_file():
-        change_first(path, said, who, first, content)
+        change_first(path, said, first, content)
     else:
         make(path, said, who, first, content, settings)
     date, counts = first.head.date, f"accounts {len(first.book)}, instructions {len(first.instructions)}"
@@ -65,9 +65,9 @@ def make(path: Path, said: argparse.Namespace, who: str, first: DayText, content
         for name in (DAYS, NEXT):
             made.make(name)
         made.write(SETTINGS, settings.text())
-        made.write(JOURNAL, journal.empty_text())
+        made.write(JOURNAL, f"{journal.HEADING}\n")
         made.write(lock.NAME, "")
-        there = handed_files.begin(made.beside / NEXT, journal.BEGINNING)
+        there = handed.HandedIn(made.beside / NEXT, journal.BEGINNING)
         there.login = people.system_login()
         handed_files.put(there, handed.FIRST, content, len(first.instructions), os.path.basename(said.first), who)
         there.keep()
@@ -79,22 +79,23 @@ def make(path: Path, said: argparse.Namespace, who: str, first: DayText, content
         folder.tell_left(f"{path} is made", f"it may be lost if the machine stops: {error.strerror}")
 
 
-def change_first(path: Path, said: argparse.Namespace, who: str, first: DayText, content: bytes) -> None:
+def change_first(path: Path, said: argparse.Namespace, first: DayText, content: bytes) -> None:
     """Puts another first text into a folder that has no settled day yet."""
-    with folder.locked(str(path), "init", who, folder.to_errors, said.seen, said.whom) as office:
+    said.office = str(path)
+    with words.changing(said, "init") as office:
         if office.last():
             raise FileFault(path, 0, "", "a folder with settled days", "a folder without settled days, or a new one")
         if said.program or said.statements or said.pages:
             raise WordsFault(f"{path} is there: change its {SETTINGS} with an editor")
         old = office.handed_in()
-        there = handed_files.begin(office.next_folder, old.base)
+        there = handed.HandedIn(office.next_folder, old.base)
         there.login = office.login
         # (the file gets a name that the old text does not have: it counts only when the journal says so)
         if any(True for _ in old.items(*(kind for kind in handed.KINDS if kind != handed.FIRST))):
             raise WordsFault("take back first what was handed in: ./day status shows it")
         there.parts = [*old.parts]
         count, name = len(first.instructions), os.path.basename(said.first)
-        part = handed_files.put(there, handed.FIRST, content, count, name, who)
+        part = handed_files.put(there, handed.FIRST, content, count, name, office.who)
         part.start, there.parts = 1, [part]
         folder.tell_left("the first text is another one", there.make_count())
         there.remove_unnamed()

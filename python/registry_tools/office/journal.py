@@ -21,12 +21,13 @@ heading its lines have them.
 """
 import csv
 import datetime
+import functools
 import io
 from dataclasses import dataclass, field
 from pathlib import Path
-from typing import Iterator, NamedTuple
+from typing import Iterator
 
-from registry_tools.errors import FileFault, shown
+from registry_tools.errors import FileFault, raise_first, shown
 from registry_tools.office.files import bytes_in, sum_of
 
 FILED, UNDONE, RELEASED, LABELLED = EVENTS = ("filed", "undone", "released", "labelled")
@@ -68,7 +69,8 @@ def row_of(fields: list[str]) -> str:
     return buffer.getvalue().removesuffix(ROW_END)
 
 
-class Event(NamedTuple):
+@dataclass
+class Event:
     """A line of the journal."""
 
     event: str
@@ -90,19 +92,20 @@ class Event(NamedTuple):
     people: str = ""
     columns: tuple[str, ...] = COLUMNS
 
+    @functools.cached_property
     def body(self) -> str:
         """All of its line but the last field."""
-        said = {**dict.fromkeys(FILES, ""), **self.sums, **self._asdict()}
+        said = {**dict.fromkeys(FILES, ""), **self.sums, **vars(self)}
         return row_of([str(said[name]) for name in self.columns[:-1]])
 
-    @property
+    @functools.cached_property
     def line(self) -> str:
         """The sum of the line, which the next one has."""
-        return sum_of(self.body().encode("utf-8", "surrogateescape"))
+        return sum_of(self.body.encode("utf-8", "surrogateescape"))
 
     def row(self) -> str:
         """The line of the journal."""
-        return f"{self.body()},{self.line}"
+        return f"{self.body},{self.line}"
 
 
 @dataclass
@@ -169,16 +172,10 @@ class Journal:
         return f"{self.text}{heading}{''.join(f'{event.row()}{LINE_END}' for event in events)}"
 
 
-def empty_text() -> str:
-    """The text of a journal without events."""
-    return HEADING + "\n"
-
-
 def read(path: Path) -> Journal:
     """The journal of a folder. Ends the command at the first line that is not what it must be."""
     journal = Journal(path, bytes_in(path).decode("utf-8", "surrogateescape"))
-    for fault in faults_of(journal):
-        raise fault
+    raise_first(faults_of(journal))
     return journal
 
 
@@ -200,9 +197,8 @@ def faults_of(journal: Journal) -> Iterator[FileFault]:
             yield FileFault(path, number, "line", shown(line), event)
             continue
         if event.before != journal.last_line:
-            yield FileFault(
-                path, number, "before", shown(event.before), f"{journal.last_line}, the sum of line {number - 1}"
-            )
+            expected = f"{journal.last_line}, the sum of line {number - 1}"
+            yield FileFault(path, number, "before", shown(event.before), expected)
         wrong = does_not_follow(journal, event)
         if wrong:
             yield FileFault(path, number, "event", f"{event.event} {event.date}", wrong)

@@ -15,19 +15,19 @@ meant.
 With --csv or --json, a row for each name.
 """
 import argparse
-import sys
 from collections.abc import Iterator
 
 from registry_tools import showing, tables
 from registry_tools.errors import FileFault, WordsFault, shown
-from registry_tools.notes import LOOK
+from registry_tools.notes import LOOK, first_of
 from registry_tools.office import composing, files, folder, journal, labels, words
 from registry_tools.office.folder import Office
+from registry_tools.office.incoming import TableFault
 from registry_tools.office.journal import LABELLED, Event
 from registry_tools.office.labels import ACCOUNT, COLUMNS, HOLDER, KINDS, USER, Label, Labels
 from registry_tools.office.layout import LABELS
 from registry_tools.office.whole_change import Change
-from registry_tools.sheets import importing, mapping as mappings, sheets
+from registry_tools.sheets import mapping as mappings, sheets
 from registry_tools.sheets.mapping import Mapping
 from registry_tools.sheets.table import Table
 from registry_tools.texts.in_words import as_looked_up
@@ -59,14 +59,13 @@ def run(said: argparse.Namespace) -> int:
     """Runs the command, and answers the exit status."""
     must_fit(said)
     if not said.named and said.file is None and not said.by_hand:
-        office = folder.opened(said.office, folder.to_errors)
+        office = folder.opened(said.office)
         rows = sorted(labels.of_folder(office.path).named.values(), key=lambda own: (own.kind, int(own.number)))
         showing.show(said, LISTED, [cells_of(said, label) for label in rows])
         return 0
-    who, why = words.one_line("--who", said.who), words.one_line("--why", said.why or "")
-    asked = [*asked_of(said)]
-    with folder.locked(said.office, "label", who, folder.to_errors, said.seen, said.whom) as office:
-        told = take_over(office, who, why) if said.by_hand else keep(office, asked, who, why)
+    why, asked = words.one_line("--why", said.why or ""), [*asked_of(said)]
+    with words.changing(said, "label") as office:
+        told = take_over(office, why) if said.by_hand else keep(office, asked, why)
     print("\n".join(told))
     return 0
 
@@ -140,9 +139,7 @@ def names_in(path: str, mapping: str | None) -> Iterator[Label]:
     made = [*names_of_table(table)]
     wrong = [own for own in made if isinstance(own, FileFault)]
     if wrong:
-        *before, last = importing.told(wrong, "no name was changed")
-        print("\n".join(before), file=sys.stderr)
-        raise FileFault(path, 0, "", last, "")
+        raise TableFault(path, wrong, "no name was changed")
     yield from (own for own in made if isinstance(own, Label))
 
 
@@ -168,34 +165,34 @@ def names_of_table(table: Table) -> Iterator[Label | FileFault]:
 # Keeping it.
 
 
-def keep(office: Office, asked: list[Label], who: str, why: str) -> list[str]:
+def keep(office: Office, asked: list[Label], why: str) -> list[str]:
     """Puts the names that are new behind those that are there, in one step with a line of the journal. Answers what is
     told of it."""
     office.kept_labels_sum()
     path = office.path / LABELS
     there = files.bytes_in(path) if path.exists() else b""
     before, at = labels.of_folder(office.path), journal.now()
-    named = {key: label.name for key, label in before.named.items()}
-    new = [own._replace(at=at, who=who, why=why) for own in asked if own.name != named.get((own.kind, own.number), "")]
-    if not new:
-        raise WordsFault(SO_ALREADY)
+    new = [own._replace(at=at, who=office.who, why=why) for own in new_of(asked, before)]
     gap = b"\n" if there and not there.endswith(b"\n") else b""
     rows = "".join(f"{own.row()}\n" for own in new).encode("utf-8", "surrogateescape")
     content = there + gap + rows
-    must_be_read(content)
+    # (ends the command if the names could not be read again)
+    list(labels.rows_in(rows_of_text(LABELS, content.decode("utf-8-sig", "surrogateescape"))))
     with Change(office) as change:
         files.write_synced(change.folder / LABELS, content)
-        change.keep(event_of(office, files.sum_of(content), who, why))
-    return [*lines_of(new, before), *doubts_of(office, new, labels.of_folder(office.path))]
+        change.keep(event_of(office, files.sum_of(content), why))
+    return [*first_of([*lines_of(new, before)], MOST_TOLD), *doubts_of(office, new, before)]
 
 
-def must_be_read(content: bytes) -> None:
-    """Ends the command if the names could not be read again."""
-    for _ in labels.rows_in(rows_of_text(LABELS, content.decode("utf-8-sig", "surrogateescape"))):
-        pass
+def new_of(asked: list[Label], before: Labels) -> list[Label]:
+    """Those that are asked for and not named so already. Raises WordsFault if there is none."""
+    new = [own for own in asked if own.name != (before.named[own[:2]].name if own[:2] in before.named else "")]
+    if not new:
+        raise WordsFault(SO_ALREADY)
+    return new
 
 
-def take_over(office: Office, who: str, why: str) -> list[str]:
+def take_over(office: Office, why: str) -> list[str]:
     """Has the names count as they lie there."""
     path = office.path / LABELS
     if not path.exists():
@@ -205,35 +202,33 @@ def take_over(office: Office, who: str, why: str) -> list[str]:
     if office.labels_sum() == last:
         raise WordsFault(f"nothing would be changed: {path} is as the journal says")
     with Change(office) as change:
-        change.keep(event_of(office, office.labels_sum(), who, why))
+        change.keep(event_of(office, office.labels_sum(), why))
     return [f"kept as they lie in {path}: names {count}"]
 
 
-def event_of(office: Office, labels_sum: str, who: str, why: str) -> Event:
+def event_of(office: Office, labels_sum: str, why: str) -> Event:
     """The line of the journal: behind the last day, or else the first text."""
     last = office.last()
     first = None if last else office.handed_in().first_text()
     date = last.date if last else first.head.date if first else None
     assert date is not None  # (a folder without a settled day has a first text)
-    records = (last.first, last.next) if last else (0, 0)
-    before = office.journal.last_line
-    return office.signed(Event(LABELLED, journal.now(), who, date, *records, {}, why, before, labels=labels_sum))
+    return office.event(LABELLED, date, *((last.first, last.next) if last else (0, 0)), why, labels=labels_sum)
 
 
 def lines_of(new: list[Label], before: Labels) -> Iterator[str]:
     """What was named how."""
-    for own in new[:MOST_TOLD]:
+    for own in new:
         old = before.named.get((own.kind, own.number))
         was = f", which was {labels.in_sight(old.name)}" if old and own.name else ""
         gone = f"{labels.in_sight(old.name)} no more" if old else ""
         yield f"labelled: {own.kind} {own.number}: {own.name or gone}{was}"
-    if len(new) > MOST_TOLD:
-        yield f"and {len(new) - MOST_TOLD} more"
 
 
-def doubts_of(office: Office, new: list[Label], now: Labels) -> Iterator[str]:
-    """What may be a slip: a number that nobody has, and a name that another one has too."""
+def doubts_of(office: Office, new: list[Label], before: Labels) -> Iterator[str]:
+    """What may be a slip of names that are new behind those of before: a number that nobody has, and a name that
+    another one has too."""
     known = numbers_of(office)
+    now = Labels({key: own for key, own in (before.named | {own[:2]: own for own in new}).items() if own.name})
     strange = [own for own in new if own.name and int(own.number) not in known[own.kind]]
     for own in strange[:MOST_TOLD]:
         yield f"{LOOK}: there is no {own.kind} {own.number} yet"

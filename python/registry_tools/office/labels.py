@@ -88,9 +88,8 @@ class Labels:
         capitals."""
         own = [label for label in self.named.values() if label.kind in (kinds or KINDS)]
         sought = as_looked_up(word)
-        return [label for label in own if as_looked_up(label.name) == sought] or [
-            label for label in own if sought and sought in as_looked_up(label.name)
-        ]
+        exact = [label for label in own if as_looked_up(label.name) == sought]
+        return exact or [label for label in own if sought and sought in as_looked_up(label.name)]
 
     def one(self, word: str, *kinds: str) -> Label:
         """The one that is called so. Raises WordsFault if nothing is, or several are."""

@@ -7,10 +7,10 @@ import time
 from pathlib import Path
 from typing import Iterator
 
-from registry_tools.errors import FileFault
+from registry_tools.errors import of_file
 from registry_tools.office import journal
 from registry_tools.office.layout import LOCK
-from registry_tools.output import cannot
+from registry_tools.output import writing
 
 NAME = LOCK
 # So often the lock is asked for, with a pause between: who looks whether somebody holds it has it for a moment.
@@ -53,24 +53,20 @@ def take(file: int) -> bool:
 
 def write_holder(file: int, path: Path, holder: str) -> None:
     """Writes who has the lock into its file. Raises FileFault."""
-    try:
+    with writing(path):
         os.ftruncate(file, 0)
         os.pwrite(file, holder.encode("utf-8", "surrogateescape"), 0)
-    except OSError as error:
-        raise cannot(path, error) from None
 
 
 @contextlib.contextmanager
 def held(folder: Path, command: str, who: str) -> Iterator[None]:
     """Holds the lock of a folder during the block. If another command holds it, says which, and ends this one."""
     path = folder / NAME
-    try:
+    with writing(path):
         file = os.open(path, os.O_RDWR | os.O_CREAT, 0o666)
-    except OSError as error:
-        raise cannot(path, error) from None
     try:
         if not take(file):
-            raise FileFault(folder, 0, "", f"another command holds its lock: {holder_of(path)}", "")
+            raise of_file(folder, f"another command holds its lock: {holder_of(path)}")
         write_holder(file, path, f"./day {command} of {who}, process {os.getpid()}, since {journal.now()}\n")
         yield
     finally:

@@ -23,21 +23,22 @@ from pathlib import Path
 
 from registry_tools.calendars import dates
 from registry_tools.errors import FOUND, FileFault, WordsFault
-from registry_tools.office import composing, files, folder, handed, settling, words
+from registry_tools.office import composing, files, settling, words
 from registry_tools.office.composing import NextDay
 from registry_tools.office.folder import Office
 from registry_tools.office.handed import CHANGES, DO, WORK
 from registry_tools.office.journal import CHANGING, FILES, Event
 from registry_tools.office.merged import MERGED, written
 from registry_tools.office.waits import waits_text
+from registry_tools.texts.changes import is_same
 from registry_tools.texts.day_text import DayText, day_of
-from registry_tools.texts.pairs import read_pair
+from registry_tools.texts.follows import read_pair
 from registry_tools.texts.report import Report
-from registry_tools.texts.rows import bytes_of, rows_of_text
+from registry_tools.texts.rows import bytes_of, rows_of_text, text_of_rows
 
 EXAMPLE = "./day mend 2025-09-23 --office out/office"
 DAY, REPORT, WAITING, HANDED = "day", "report", "waiting", "handed"
-EMPTY = "nothing was in it"
+EMPTY, OF_TEXT = "nothing was in it", "what the day's text has"
 # How the journal names the engine of a day that the second answer alone settled.
 SECOND = "second"
 
@@ -51,9 +52,9 @@ def add_words(parser: argparse.ArgumentParser) -> None:
 
 def run(said: argparse.Namespace) -> int:
     """Runs the command, and answers the exit status."""
-    who, date = words.one_line("--who", said.who), dates.date_of("DATE", said.date)
-    with folder.locked(said.office, "mend", who, folder.to_errors, said.seen, said.whom) as office:
-        event = next((own for own in office.journal.filed() if own.date == date), None)
+    date = dates.date_of("DATE", said.date)
+    with words.changing(said, "mend") as office:
+        event = office.journal.day_of(date)
         if event is None:
             raise WordsFault(f"{date} is no filed day of {office.path}")
         mending = Mending(office, event)
@@ -142,9 +143,8 @@ class Mending:
             elif key == REPORT:
                 yield from self.settled()
             elif (composed := self.composed()) is not None:
-                yield "made of the day before and what was handed in", (
-                    composed.text if key == DAY else composed.waiting_text()
-                )
+                content = composed.text if key == DAY else composed.waiting_text()
+                yield "made of the day before and what was handed in", content
 
     def base(self) -> str:
         """The line of the journal behind which the day was handed in."""
@@ -174,22 +174,25 @@ class Mending:
             # (what waited stands before what was handed in; of the first text, its own instructions)
             most = before[2] if before else len(day.do_rows)
             for entered in range(min(most, len(day.do_rows)) + 1):
-                yield "what the day's text has", handed.text_of_rows(day.do_rows[entered:])
+                yield OF_TEXT, text_of_rows(day.do_rows[entered:])
         elif before and key == WORK:
             old = {row for row in before[0].heading if row.startswith("work,")}
             rows = [row for row in day.heading if row.startswith("work,")]
-            yield "what the day's text has", handed.text_of_rows([row for row in rows if row not in old])
+            yield OF_TEXT, text_of_rows([row for row in rows if row not in old])
             # (days that were there before may be handed in once more)
             for start in range(len(rows)):
-                yield "what the day's text has", handed.text_of_rows(rows[start:])
+                yield OF_TEXT, text_of_rows(rows[start:])
         elif before and key == CHANGES:
             book = before[1].book
             other = [block for number, block in day.book.items() if not is_same(book.get(number), block)]
-            yield "what the day's text has", handed.text_of_rows([row for block in other for row in block.rows])
+            yield OF_TEXT, text_of_rows([row for block in other for row in block.rows])
 
     def day(self) -> DayText | None:
         """The day's text, if it is right."""
-        return day_in(self.office.file(self.event, DAY), self.content[DAY]) if DAY in self.content else None
+        if DAY not in self.content:
+            return None
+        text = self.content[DAY].decode("utf-8", "surrogateescape")
+        return day_of(rows_of_text(str(self.office.file(self.event, DAY)), text))
 
     def before(self) -> tuple[DayText, Report, int] | None:
         """The day before with its report, if they are right, and how many instructions waited behind it."""
@@ -220,13 +223,3 @@ class Mending:
             paths = {kind: written(Path(work) / f"{kind}.csv", self.content[kind]) for kind in MERGED}
             waits = str(self.office.file(last, WAITING))
             return composing.later_text(before[0], before[1], self.event.date, paths, waits)
-
-
-def day_in(path: Path, content: bytes) -> DayText:
-    """A text as a day."""
-    return day_of(rows_of_text(str(path), content.decode("utf-8", "surrogateescape")))
-
-
-def is_same(one: object, other: object) -> bool:
-    """Whether two accounts have the same rows."""
-    return getattr(one, "rows", None) == getattr(other, "rows", None)

@@ -6,25 +6,22 @@ from pathlib import Path
 from typing import Iterator
 
 from registry_tools.errors import FileFault, WordsFault, shown
-from registry_tools.office import files, handed
+from registry_tools.office import files
 from registry_tools.office.changes import edits
 from registry_tools.office.changes.edits import Edit
-from registry_tools.office.handed import CHANGES, DO, EDITS, WORK, HandedIn, Item
+from registry_tools.office.handed import CHANGES, DO, EDITS, NAMES, WORK, HandedIn, Item
 from registry_tools.texts.report import Report
+from registry_tools.texts.rows import text_of_rows
 
-# What is merged into one file of a filed day, and what it is called as a whole.
+# What is merged into one file of a filed day.
 MERGED = (DO, CHANGES, EDITS, WORK)
-WHAT = {
-    DO: "the instructions handed in", CHANGES: "the accounts handed in", EDITS: "the changes handed in",
-    WORK: "the working days handed in",
-}  # fmt: skip
 # How a row begins behind which the rows of an account stand.
 ACCOUNT = re.compile("account,([0-9]{1,9}),")
 
 
 def contents_of(handed_in: HandedIn) -> dict[str, bytes]:
     """What was handed in, the files of each kind as one."""
-    return {kind: handed.text_of_rows([row for item in handed_in.items(kind) for row in item.rows]) for kind in MERGED}
+    return {kind: text_of_rows([row for item in handed_in.items(kind) for row in item.rows]) for kind in MERGED}
 
 
 class Merged:
@@ -42,16 +39,12 @@ class Merged:
     def origin(self, path: str, line: int) -> tuple[str, int]:
         """Where a row of a merged file came from. A block of several changes has no single line."""
         item, own = self.item(path, line)
-        return (item.part.name, own) if item else (WHAT[Path(path).stem], 0)
+        return (item.part.name, own) if item else (f"the {NAMES[Path(path).stem]} handed in", 0)
 
     def item(self, path: str, line: int) -> tuple[Item | None, int]:
         """What was handed in that has a row of a merged file, and the line where it has it."""
         rows = self.rows.get(path, [])
         return rows[line - 1] if 0 < line <= len(rows) else (None, 0)
-
-    def with_origins(self, note: str) -> str:
-        """A line in which each place of the merged file is that of the file that it came from."""
-        return self.path.sub(self.named, note)
 
     def named(self, found: re.Match[str]) -> str:
         """The file and the line from which a place of the merged file came."""
@@ -108,6 +101,5 @@ def edited_changes(made: list[Edit], report: Report, path: str | None, work: str
         return
     changed = edits.edited_blocks(made, report, blocks)
     with tempfile.TemporaryDirectory(dir=work) as inner:
-        yield written(
-            Path(inner) / "changes.csv", handed.text_of_rows([row for rows in changed.values() for row in rows])
-        )
+        rows = [row for rows in changed.values() for row in rows]
+        yield written(Path(inner) / "changes.csv", text_of_rows(rows))

@@ -18,14 +18,8 @@ from registry_tools.options import A_DATE, Given, Words
 # The commands that take them, and what each takes of a day.
 PAIR, REPORTS, TEXT = "pair", "reports", "text"
 TAKES = {
-    "verify": PAIR,
-    "statements": PAIR,
-    "compliance": PAIR,
-    "page": PAIR,
-    "export": PAIR,
-    "log": REPORTS,
-    "explain": TEXT,
-}
+    **dict.fromkeys(("verify", "statements", "compliance", "page", "export"), PAIR), "log": REPORTS, "explain": TEXT,
+}  # fmt: skip
 # Those that show names.
 TAKE_NAMES = ("page", "compliance")
 DAY, OFFICE = "--day", "--office"
@@ -37,12 +31,9 @@ class Named(Given):
     """The option with the date of a day behind it; that of logs takes several, also if it is given twice."""
 
     def __call__(
-        self,
-        parser: argparse.ArgumentParser,
-        namespace: argparse.Namespace,
-        values: Any,
+        self, parser: argparse.ArgumentParser, namespace: argparse.Namespace, values: Any,
         option_string: str | None = None,
-    ) -> None:
+    ) -> None:  # fmt: skip
         if values is None or values == []:
             raise WordsFault(f"{DAY} has nothing behind it; expected {DATE.expected}")
         for word in values if isinstance(values, list) else [values]:
@@ -78,11 +69,8 @@ def is_named(name: str, arguments: list[str]) -> bool:
     if TAKES[name] != REPORTS or has_office:
         return True
     _, has_value, value = given[place].partition("=")
-    return is_meant_as_date(value if has_value else "".join(given[place + 1 : place + 2]))
-
-
-def is_meant_as_date(word: str) -> bool:
-    """Whether a word is a date, or a slip in one, and no path."""
+    word = value if has_value else "".join(given[place + 1 : place + 2])
+    # (a date, or a slip in one, and no path)
     return is_date(word) or bool(LIKE_A_DATE.fullmatch(word) and not os.path.exists(word))
 
 
@@ -92,7 +80,7 @@ def look_up(name: str, words: argparse.Namespace) -> None:
     named = getattr(words, "_dates", None)
     if named is None:
         return
-    office = folder.opened(words._office, folder.to_errors)  # noqa: SLF001
+    office = folder.opened(words._office)  # noqa: SLF001
     if TAKES[name] == REPORTS:
         words.days, words.reports = map(list, zip(*(paths_of(office, date) for date in named)))
         return

@@ -24,16 +24,16 @@ from registry_tools import tables
 from registry_tools.calendars.dates import date_of
 from registry_tools.calendars.due_days import NOT_DUE, due_day_after, is_due
 from registry_tools.calendars.working_days import days_in_words, look_at_calendar, next_calendar
-from registry_tools.errors import FOUND, FileFault, RowFault, WordsFault
+from registry_tools.errors import FOUND, FileFault, RowFault, WordsFault, of_file, raise_first
 from registry_tools.notes import BY_HAND, ROW, Notes
-from registry_tools.options import add_to
+from registry_tools.options import add_pair, add_to
 from registry_tools.output import NewFile, write_answer
 from registry_tools.second import faults, rules
 from registry_tools.texts import changes as made, pending
 from registry_tools.texts.accounts import Accounts, Block
 from registry_tools.texts.changes import refusals
 from registry_tools.texts.day_text import DayText, read_blocks, read_rows_of
-from registry_tools.texts.pairs import read_pair
+from registry_tools.texts.follows import read_pair
 from registry_tools.texts.repeated import Handed, tell_dates, tell_repeated
 from registry_tools.texts.report import Report
 from registry_tools.texts.rows import Rows, begins_with
@@ -47,17 +47,14 @@ OUTSIDE = rules.name_of(rules.outside_calendar)
 
 def add_words(parser: argparse.ArgumentParser) -> None:
     """Tells a parser the words of the command."""
-    parser.add_argument("day", metavar="DAY", help="a day text")
-    parser.add_argument("report", metavar="REPORT", help="its report")
+    add_pair(parser)
     parser.add_argument("--date", required=True, metavar="DATE", help="the next settlement day")
     parser.add_argument("--do", metavar="FILE", help="the new instructions: do rows")
-    parser.add_argument(
-        "--again", action="store_true", help="new instructions may stand in DAY, in the pending file or twice in --do"
-    )
+    again = "new instructions may stand in DAY, in the pending file or twice in --do"
+    parser.add_argument("--again", action="store_true", help=again)
     parser.add_argument("--work", metavar="FILE", help="more working days: work rows")
-    parser.add_argument(
-        "--changes", metavar="FILE", help="accounts that are new, or changed by hand: whole account blocks"
-    )
+    blocks = "accounts that are new, or changed by hand: whole account blocks"
+    parser.add_argument("--changes", metavar="FILE", help=blocks)
     parser.add_argument("--pending", metavar="FILE", help="the instructions that wait for their due day")
     parser.add_argument("--pending-new", metavar="FILE", help="the same, for the first time: the file is made")
     add_to(parser)
@@ -75,18 +72,14 @@ def book_with_changes(
     changes = read_changes(day, report, path, periods or day.head.periods)
     for number, block in changes.items():
         old = report.book.get(number)
-        for fault in refusals(old, block):
-            raise fault
+        raise_first(refusals(old, block))
         tell_change(report, old, block, notes)
     if all(number in report.book and report.book[number].rows == block.rows for number, block in changes.items()):
         notes.warn(f"{path}: nothing of this file was applied: {len(changes)} accounts, and none is new or another one")
     both = {**report.book, **changes}
-    book = {number: both[number] for number in sorted(both)}
-    if len(book) > faults.MOST["account"]:
-        raise FileFault(
-            path, 0, "", f"with it there are {len(book)} accounts, and at most {faults.MOST['account']} may be", ""
-        )
-    return book
+    if len(both) > faults.MOST["account"]:
+        raise of_file(path, f"with it there are {len(both)} accounts, and at most {faults.MOST['account']} may be")
+    return dict(sorted(both.items()))
 
 
 def read_changes(day: DayText, report: Report, path: str, periods: list[tuple[int, int]]) -> dict[int, Block]:
@@ -131,17 +124,12 @@ def waiting_after(
     if file:
         found = pending.still_waiting(file, day, report, date)
         notes.warn(*found.warnings)
-        notes.warn(
-            *(
-                f"{lost.place}: this was entered into {day.path}, which does not have it: {lost.instruction.row}"
-                for lost in found.lost
-            )
-        )
+        lost = f"this was entered into {day.path}, which does not have it"
+        notes.warn(*(f"{own.place}: {lost}: {own.instruction.row}" for own in found.lost))
         waiting += found.waiting
-    not_due = (logged for logged in report.log if logged.name == NOT_DUE)
-    return waiting + [
-        pending.Waiting(logged.record, logged.instruction, place=f"{report.path}:{logged.line}") for logged in not_due
-    ]
+    not_due = (own for own in report.log if own.name == NOT_DUE)
+    places = ((own, f"{report.path}:{own.line}") for own in not_due)
+    return waiting + [pending.Waiting(own.record, own.instruction, place=place) for own, place in places]
 
 
 def enter_due(head: rules.Day, waiting: list[pending.Waiting], notes: Notes) -> list[pending.Waiting]:
@@ -169,9 +157,8 @@ def tell_refused(report: Report, notes: Notes) -> None:
         again = f"Add working days and enter it again: {logged.instruction.row}"
         notes.warn(f"{report.path}:{logged.line}: refused as {OUTSIDE}. {again}")
     others = sum(not logged.is_done and logged.name not in (NOT_DUE, OUTSIDE) for logged in report.log)
-    notes.add(
-        f"refused by {report.path} for other reasons: {others}{' (./day log --refused shows each)' if others else ''}"
-    )
+    each = " (./day log --refused shows each)" if others else ""
+    notes.add(f"refused by {report.path} for other reasons: {others}{each}")
 
 
 # All together.
@@ -238,9 +225,8 @@ def run(words: argparse.Namespace) -> int:
     entered = enter_due(head, waiting, notes)
     left = len(waiting) - len(entered)
     if left and not path:
-        raise WordsFault(
-            f"instructions that are not due on {head.date}: {left}; name a file for them by --pending or --pending-new"
-        )
+        name = "name a file for them by --pending or --pending-new"
+        raise WordsFault(f"instructions that are not due on {head.date}: {left}; {name}")
     new = new_instructions(words.do, report, len(entered))
     tell_repeated(Handed(new, day, report, waiting), words.again, notes)
     tell_dates(new, head, notes)
@@ -263,10 +249,9 @@ def run(words: argparse.Namespace) -> int:
 
 def check_count(first: int, count: int) -> None:
     """Ends the command if the day would have more instructions than it may, or records above the last one."""
-    if count > faults.MOST["do"]:
-        most = faults.MOST["do"]
-        raise WordsFault(
-            f"the day would have {count} instructions, and at most {most} may be: move some to another day"
-        )
+    most = faults.MOST["do"]
+    if count > most:
+        more = f"and at most {most} may be: move some to another day"
+        raise WordsFault(f"the day would have {count} instructions, {more}")
     if count and first + count - 1 > tables.MOST_RECORD:
         raise WordsFault(f"the day would need records above {tables.MOST_RECORD}")

@@ -4,24 +4,28 @@ import argparse
 import bisect
 import contextlib
 import datetime
+import functools
 from dataclasses import dataclass
 from pathlib import Path
-from typing import Iterator
+from typing import Iterator, TypeVar
 
 from registry_tools.calendars.dates import date_of
-from registry_tools.errors import WordsFault
+from registry_tools.errors import WordsFault, raise_first
 from registry_tools.office import folder, words
 from registry_tools.office.folder import Office
 from registry_tools.office.journal import Event
 from registry_tools.progress import progress
 from registry_tools.texts import changes
+from registry_tools.texts.books import Sums, sums_of, sums_told
 from registry_tools.texts.changes import HandChange
 from registry_tools.texts.day_text import DayText, read_day
 from registry_tools.texts.filed import filed_day, filed_report
-from registry_tools.texts.pairs import must_follow
+from registry_tools.texts.follows import must_follow
 from registry_tools.texts.report import Report, read_report
 from registry_tools.texts.rows import rows_of
+from registry_tools.texts.runs import unlike
 
+T = TypeVar("T")
 # The files of a pair, and those that tell changes by hand, by the columns of the journal.
 PAIR, OF_CHANGES = ("day", "report"), ("handed", "changes", "edits")
 
@@ -29,9 +33,7 @@ PAIR, OF_CHANGES = ("day", "report"), ("handed", "changes", "edits")
 def as_filed(office: Office, event: Event, key: str) -> Path:
     """The path of a file of a filed day. Ends the command if its sum is not that of the journal. Whatever reads a filed
     file asks here, but `audit`, which tells all that was changed."""
-    fault = office.changed_file(event, key)
-    if fault:
-        raise fault
+    raise_first([office.changed_file(event, key)])
     return office.file(event, key)
 
 
@@ -66,6 +68,24 @@ class PastDay:
         """The date of the day."""
         return self.day.head.date
 
+    @functools.cached_property
+    def changed(self) -> list[int]:
+        """The accounts after the day that are others than after the day before; on a first day, all of them."""
+        day, report = self.day.others, self.report.others
+        others = None if day is None or report is None else sorted({*day, *report} & self.report.book.keys())
+        return unlike(self.before.book if self.before else {}, self.report.book, others)
+
+    def sums(self) -> dict[str, Sums]:
+        """The sums over the accounts of the report, by the totals of the report before, which were compared: only
+        accounts that are others now are added up."""
+        if self.before is None:
+            return sums_of(self.report.book_rows)
+        old, new, told = self.before.book, self.report.book, sums_told(self.before)
+        gone = sums_of(row for own in {*self.changed, *old.keys() - new.keys()} & old.keys() for row in old[own].rows)
+        come = sums_of(row for own in self.changed for row in new[own].rows)
+        pairs = {kind: zip(told[kind], gone[kind], come[kind]) for kind in told}
+        return {kind: Sums(*(was - less + more for was, less, more in own)) for kind, own in pairs.items()}
+
     def changes(self) -> Iterator[HandChange]:
         """What people changed before this day."""
         if self.before is not None:
@@ -75,12 +95,8 @@ class PastDay:
 def add_words(parser: argparse.ArgumentParser) -> None:
     """Tells a parser the words of the command."""
     parser.add_argument("--office", metavar="FOLDER", help=folder.WHERE)
-    parser.add_argument(
-        "--pairs",
-        metavar="DAY REPORT",
-        nargs="+",
-        help="day texts, each with its report behind it, in place of a folder",
-    )
+    pairs = "day texts, each with its report behind it, in place of a folder"
+    parser.add_argument("--pairs", metavar="DAY REPORT", nargs="+", help=pairs)
 
 
 def pairs_of(
@@ -104,7 +120,7 @@ def office_of(said: argparse.Namespace) -> Office:
     """The folder of days that the words name, which is only looked at."""
     words.look_at_places(said)
     opened: Office | None = getattr(said, "opened", None)
-    return opened or folder.opened(said.office, folder.to_errors)
+    return opened or folder.opened(said.office)
 
 
 def pair_of(office: Office, event: Event) -> Pair:
@@ -146,6 +162,6 @@ def span_of(said: argparse.Namespace) -> tuple[datetime.date, datetime.date]:
     return begin, end
 
 
-def date_or(name: str, word: str | None, otherwise: datetime.date) -> datetime.date:
+def date_or(name: str, word: str | None, otherwise: T) -> datetime.date | T:
     """The date that the word behind an option says, if it stands there."""
     return otherwise if word is None else date_of(name, word)

@@ -17,7 +17,7 @@ import pwd
 from dataclasses import dataclass, field
 from pathlib import Path
 
-from registry_tools.errors import FileFault, WordsFault, shown
+from registry_tools.errors import FileFault, WordsFault, must_be_known, shown
 from registry_tools.office.files import sum_of
 from registry_tools.office.layout import SETTINGS
 
@@ -142,9 +142,8 @@ def read(path: Path, text: str) -> People:
     # (a login may have capital letters)
     setattr(parser, "optionxform", str)
     parser.read_string(text, str(path))
-    named = {}
-    for login, words in parser[SECTION].items() if SECTION in parser else ():
-        named[login] = person_named(path, login, words)
+    people = parser[SECTION].items() if SECTION in parser else ()
+    named = {login: person_named(path, login, words) for login, words in people}
     return People(named, commands_in(path, parser))
 
 
@@ -162,9 +161,9 @@ def commands_in(path: Path, parser: configparser.ConfigParser) -> tuple[str, ...
     if FOUR_EYES not in parser:
         return ()
     section = parser[FOUR_EYES]
-    unknown = next((name for name in section if name != COMMANDS), None)
     words = tuple(own.strip() for own in section.get(COMMANDS, "").split(","))
-    if unknown is not None or not {*words} <= {*MAY_WAIT}:
-        found = shown(unknown or section.get(COMMANDS, ""))
-        raise FileFault(path, 0, f"[{FOUR_EYES}]", found, f"{COMMANDS} = some of {', '.join(MAY_WAIT)}")
+    expected = f"{COMMANDS} = some of {', '.join(MAY_WAIT)}"
+    must_be_known(path, f"[{FOUR_EYES}]", section, (COMMANDS,), expected)
+    if not {*words} <= {*MAY_WAIT}:
+        raise FileFault(path, 0, f"[{FOUR_EYES}]", shown(section.get(COMMANDS, "")), expected)
     return words

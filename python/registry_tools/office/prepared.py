@@ -34,10 +34,8 @@ def put_right(path: Path, tell: Callable[[str], None]) -> None:
             tell(f"{path}: a command was interrupted when its work was done: {done}, and all is in its place now")
         else:
             remove_aside(path, prepared)
-            tell(
-                f"{path}: a command was interrupted before its work was done: nothing has changed ({what} is not in "
-                "the journal)"
-            )
+            nothing = f"nothing has changed ({what} is not in the journal)"
+            tell(f"{path}: a command was interrupted before its work was done: {nothing}")
     elif (path / BUILT).exists():
         tell(f"{path}: a command was interrupted before its work was done: nothing has changed")
     for name in (BUILT, DONE):

@@ -10,9 +10,9 @@ import datetime
 from typing import Iterator
 
 from registry_tools.calendars import dates
-from registry_tools.errors import FOUND, WordsFault
+from registry_tools.errors import FOUND, WordsFault, raise_first
 from registry_tools.notes import LOOK
-from registry_tools.office import approvals, files, folder, journal, settling, words
+from registry_tools.office import approvals, files, folder, settling, words
 from registry_tools.office.folder import Office
 from registry_tools.office.journal import HEAD_DIGITS, RELEASED, Event
 from registry_tools.office.layout import JOURNAL
@@ -31,44 +31,41 @@ def add_words(parser: argparse.ArgumentParser) -> None:
 
 def run(said: argparse.Namespace) -> int:
     """Runs the command, and answers the exit status."""
-    who, why = words.one_line("--who", said.who), words.one_line("--why", said.why)
-    with folder.locked(said.office, "release", who, folder.to_errors, said.seen, said.whom) as office:
+    why = words.one_line("--why", said.why)
+    with words.changing(said, "release") as office:
         day = day_to_release(office, said.day)
         doubt = doubt_of(day)
         if doubt and not said.yes:
             print(f"{LOOK}: {day.date} {doubt}\n{day.date} is not released, without --yes")
             return FOUND
-        if not is_kept(office, day, who, why):
+        if not is_kept(office, day, why):
             return FOUND
     print(f"{day.date} is released: it is not undone any more")
     return 0
 
 
-def is_kept(office: Office, day: Event, who: str, why: str) -> bool:
+def is_kept(office: Office, day: Event, why: str) -> bool:
     """Releases a day, or asks for it if it has to wait for another login. Ends the command if its files are not as they
     were filed: others would know of something else."""
-    for fault in office.changed_files(day):
-        raise fault
-    approved = approvals.let_through(office, "release", day.date, f"--why {why}", day.line, who)
+    raise_first(office.changed_files(day))
+    approved = approvals.let_through(office, "release", day.date, f"--why {why}", day.line)
     if approved is None:
         return False
-    event = office.signed(Event(
-        RELEASED, journal.now(), who, day.date, day.first, day.next, {}, why, office.journal.last_line,
-        office.kept_labels_sum(),
-    ), approved)  # fmt: skip
+    labels = office.kept_labels_sum()
+    event = office.event(RELEASED, day.date, day.first, day.next, why, approved=approved, labels=labels)
     left = files.step(office.path / JOURNAL, office.journal.with_event(event).encode("utf-8", "surrogateescape"))
     folder.tell_left(f"{day.date} is released", left)
     folder.to_errors(f"head: {event.line[:HEAD_DIGITS]}")
     return True
 
 
-def release(said: argparse.Namespace, day: Event, who: str, why: str) -> None:
+def release(said: argparse.Namespace, day: Event, why: str) -> None:
     """Releases a day that was read before, if it is still there."""
-    with folder.locked(said.office, "release", who, folder.to_errors, said.seen, said.whom) as office:
+    with words.changing(said, "release") as office:
         there = office.journal.day_of(day.date)
         if there is None or there.line != day.line:
             raise WordsFault(f"{day.date} was undone meanwhile: look once more")
-        if not office.journal.is_released(there) and not is_kept(office, there, who, why):
+        if not office.journal.is_released(there) and not is_kept(office, there, why):
             raise WordsFault(f"{day.date} is not released yet, and nothing was made")
     folder.to_errors(f"{day.date} is released: it is not undone any more")
 

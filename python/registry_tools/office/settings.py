@@ -5,7 +5,7 @@ from pathlib import Path
 
 from registry_tools.calendars import deadlines
 from registry_tools.calendars.deadlines import DueDates
-from registry_tools.errors import FileFault, shown
+from registry_tools.errors import FileFault, must_be_known, of_file, shown
 from registry_tools.office import files, people
 from registry_tools.office.people import People
 
@@ -57,16 +57,12 @@ def read(path: Path) -> Settings:
     try:
         parser.read_string(text, str(path))
     except configparser.Error as error:
-        raise FileFault(path, 0, "", f"these are no settings: {error}".replace("\n", " "), "") from None
+        raise of_file(path, f"these are no settings: {error}".replace("\n", " ")) from None
     if SECTION not in parser:
         raise FileFault(path, 0, "", f"no row [{SECTION}]", f"[{SECTION}], and below it {', '.join(NAMES)}")
     section = parser[SECTION]
-    strange = next((name for name in parser.sections() if name not in SECTIONS), None)
-    if strange is not None:
-        raise FileFault(path, 0, "section", shown(strange), f"one of {', '.join(f'[{name}]' for name in SECTIONS)}")
-    unknown = next((name for name in section if name not in NAMES), None)
-    if unknown is not None:
-        raise FileFault(path, 0, "name", shown(unknown), f"one of {', '.join(NAMES)}")
+    must_be_known(path, "section", parser.sections(), SECTIONS, f"one of {', '.join(f'[{name}]' for name in SECTIONS)}")
+    must_be_known(path, "name", section, NAMES)
     if section.get("layout") != LAYOUT:
         raise FileFault(path, 0, "layout", shown(section.get("layout", "")), LAYOUT)
     makes_statements, makes_pages = is_yes(path, section, "statements"), is_yes(path, section, "pages")

@@ -15,10 +15,11 @@ from typing import NamedTuple
 
 from registry_tools import installed
 from registry_tools.engine import NotSettled, find_library, tell_once
-from registry_tools.errors import FileFault, WordsFault
+from registry_tools.errors import WordsFault, of_file
 from registry_tools.progress import progress
 from registry_tools.questions.verify import expected_rows
 from registry_tools.texts.day_text import DayText
+from registry_tools.texts.rows import text_of_rows
 
 RUN = installed.SCRIPT
 BY_RUN = f"{RUN}, which builds the program first if it is not there"
@@ -89,10 +90,8 @@ def engine_by(what: str, told: str) -> Engine:
     version = re.search(r"^registry ([0-9]\S*)$", told, re.MULTILINE)
     commit = re.search(r"^source: commit ([0-9a-f]+)(, with changes)?$", told, re.MULTILINE)
     is_proved = re.search("^proved and built with ", told, re.MULTILINE) and "not proved" not in told.lower()
-    return Engine(
-        what, version[1] if version else UNKNOWN, commit[1] + ("+" if commit[2] else "") if commit else UNKNOWN,
-        PROVED if is_proved else UNPROVED,
-    )  # fmt: skip
+    sources = commit[1] + ("+" if commit[2] else "") if commit else UNKNOWN
+    return Engine(what, version[1] if version else UNKNOWN, sources, PROVED if is_proved else UNPROVED)
 
 
 def text_in(path: Path) -> str:
@@ -105,7 +104,7 @@ def text_in(path: Path) -> str:
 
 def by_rules(day: DayText) -> bytes:
     """The report of a day by the second answer."""
-    return "\n".join([*expected_rows(day), ""]).encode("utf-8", "surrogateescape")
+    return text_of_rows([*expected_rows(day)])
 
 
 def by_engine(named: str, text: bytes, path: str | Path = "") -> bytes:
@@ -119,7 +118,7 @@ def by_engine(named: str, text: bytes, path: str | Path = "") -> bytes:
     try:
         return library.settle(text)
     except NotSettled as fault:
-        raise FileFault(library.name, 0, "", f"settle{whose}: {fault}", "") from None
+        raise of_file(library.name, f"settle{whose}: {fault}") from None
 
 
 def settler_in_words(named: str) -> str:
@@ -141,10 +140,10 @@ def by_program(program: str, text: bytes, whose: str) -> bytes:
     try:
         run = subprocess.run(words, input=text, capture_output=True, check=False)
     except OSError as error:
-        raise FileFault(words[0], 0, "", f"it cannot be run: {error.strerror}", "") from None
+        raise of_file(words[0], f"it cannot be run: {error.strerror}") from None
     if run.returncode:
         said = run.stderr.decode("utf-8", "replace").strip()
         more = "without the program, --second has the second answer settle"
-        raise FileFault(words[0], 0, "", f"settle{whose} ends with status {run.returncode}: {said}\n{more}", "")
+        raise of_file(words[0], f"settle{whose} ends with status {run.returncode}: {said}\n{more}")
     tell_once(run.stderr)
     return run.stdout

@@ -9,7 +9,7 @@ from dataclasses import dataclass
 from pathlib import Path
 from typing import NamedTuple
 
-from registry_tools.errors import FileFault, visible
+from registry_tools.errors import FileFault, raise_first, visible
 from registry_tools.office.files import bytes_in, make_folder, sum_of, write_synced
 from registry_tools.office.journal import row_of
 
@@ -55,9 +55,7 @@ def originals_of(folder: Path, sources: Iterable[Source]) -> Iterator[Original]:
     """What lies there, to be put elsewhere. Raises FileFault if somebody changed it."""
     for own in sources:
         path = folder / own.file
-        fault = changed(path, own)
-        if fault:
-            raise fault
+        raise_first([changed(path, own)])
         yield Original(own.file.partition("-")[2].partition(".")[0], path.suffix, bytes_in(path), own.name)
 
 
@@ -75,9 +73,7 @@ def file_all(folder: Path, place: Path, sources: Iterable[Source]) -> None:
     """Puts sources into the folder of a day that is made."""
     for own in sources:
         path = folder / own.file
-        fault = changed(path, own)
-        if fault:
-            raise fault
+        raise_first([changed(path, own)])
         if not place.exists():
             make_folder(place)
         write_synced(place / own.file, bytes_in(path))

@@ -20,7 +20,6 @@ from registry_tools.office.folder import Office
 from registry_tools.office.handed import KINDS, HandedIn, Item
 from registry_tools.office.labels import Labels
 from registry_tools.office.waits import waits_of
-from registry_tools.output import write_answer
 from registry_tools.questions.due import missed_days, next_dates
 from registry_tools.showing import Cell
 
@@ -57,22 +56,23 @@ def is_coloured() -> bool:
 
 def run(said: argparse.Namespace) -> int:
     """Runs the command, and answers the exit status."""
-    office = folder.opened(said.office, folder.to_errors)
+    office = folder.opened(said.office)
     handed_in = office.handed_in()
     last = office.last()
     faults = [*office.changed_files(last), *office.changed_tables(last)] if last else []
-    if showing.is_for_programs(said):
-        rows = [*rows_for_programs(office, handed_in, faults)]
-        write_answer(showing.for_programs(said, COLUMNS.names, rows), said.to)
-        return FOUND if faults else 0
+    rows = rows_for_programs(office, handed_in, faults)
+    showing.show_or_tell(said, COLUMNS, rows, lambda: told_of(office, handed_in, faults, said.to is None))
+    return FOUND if faults else 0
+
+
+def told_of(office: Office, handed_in: HandedIn, faults: list[FileFault], may_be_coloured: bool) -> str:
+    """What people are told."""
     names = labels.of_folder(office.path)
     lines = [*last_lines(office), *waiting_lines(office, names), *handed_lines(handed_in, names)]
     lines += [*second_lines(office, handed_in), *lock_lines(office)]
-    bold, red, plain = (BOLD, RED, PLAIN) if is_coloured() and said.to is None else ("", "", "")
+    bold, red, plain = (BOLD, RED, PLAIN) if may_be_coloured and is_coloured() else ("", "", "")
     told = [f"{bold}{name}:{plain} {what}" if name else f"  {what}" for name, what in lines]
-    told += [f"{red}{LOOK}:{plain} {fault}" for fault in faults]
-    write_answer("\n".join([*told, ""]), said.to)
-    return FOUND if faults else 0
+    return "\n".join([*told, *(f"{red}{LOOK}:{plain} {fault}" for fault in faults), ""])
 
 
 def rows_for_programs(office: Office, handed_in: HandedIn, faults: list[FileFault]) -> Iterator[list[Cell]]:

@@ -14,6 +14,7 @@ import re
 from collections.abc import Iterator
 
 from registry_tools.errors import WordsFault, shown
+from registry_tools.notes import first_of
 from registry_tools.office import approvals, folder, handed, journal, people, words
 from registry_tools.office.handed import FIRST, HandedIn, Item, Part, Taken
 
@@ -36,21 +37,19 @@ def add_words(parser: argparse.ArgumentParser) -> None:
 
 def run(said: argparse.Namespace) -> int:
     """Runs the command, and answers the exit status."""
-    who, why = words.one_line("--who", said.who), words.one_line("--why", said.why)
+    why = words.one_line("--why", said.why)
     if not said.places and said.file is None and said.handed_by is None:
         raise WordsFault("name what is taken back: a PLACE, --file or --handed-by")
-    with folder.locked(said.office, "take-back", who, folder.to_errors, said.seen, said.whom) as office:
+    with words.changing(said, "take-back") as office:
         handed_in = office.handed_in()
         handed_in.remove_unnamed()
         items = chosen(handed_in, said)
         for item in items:
             people.must_be_allowed(office.people, office.login, approvals.COMMAND_OF[item.part.kind])
-            handed_in.taken.append(Taken(journal.now(), who, item.place, why, office.login))
+            handed_in.taken.append(Taken(journal.now(), office.who, item.place, why, office.login))
         folder.tell_left("taken back", handed_in.make_count())
-    for item in items[:MOST_TOLD]:
-        print(f"taken back: place {item.place}: {' '.join(item.rows)}")
-    if len(items) > MOST_TOLD:
-        print(f"and {len(items) - MOST_TOLD} more")
+    told = [f"taken back: place {item.place}: {' '.join(item.rows)}" for item in items]
+    print("\n".join(first_of(told, MOST_TOLD)))
     return 0
 
 

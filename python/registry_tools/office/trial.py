@@ -79,7 +79,7 @@ def look(next_day: NextDay, day: DayText, names: Labels = Labels()) -> list[Look
     """What would come of each instruction, in words with the names of accounts."""
     places = [*(None for _ in next_day.entered), *(item.place for item in next_day.new)]
     looked = []
-    for place, instruction, logged in zip(places, day.instructions, composing.asked_rules(day)):
+    for place, instruction, logged in zip(places, day.instructions, rules.settle(day.day())):
         own, said = instruction.row, in_words.instruction_in_words(instruction, names.account)
         outcome = outcome_by_rules(logged, instruction)
         looked.append(Looked(place, own, said, outcome, str(logged.due or ""), logged.line))
@@ -110,13 +110,18 @@ def tell(looked: list[Looked], next_day: NextDay, places: set[int] | None = None
         print(streams.by_name(note))
     if any(tried.outcome != "done" for tried in shown):
         print("\n".join(table_of([tried for tried in shown if tried.outcome != "done"])))
-    for name in dict.fromkeys(tried.outcome for tried in refused):
-        print(f"{name}: {checks()[name].meaning} {advice_for(name)}")
+    print("".join(f"{name}: {said}\n" for name, said in whys(shown).items()), end="")
     done, waiting = sum(tried.outcome == "done" for tried in shown), sum(tried.waits for tried in shown)
     counts = f"done {done}, waiting {waiting}, refused {len(refused)}"
     if shown or places is None:
         print(f"{'' if places is None else 'of these, '}as it stands, on {next_day.date}: {counts}")
     return FOUND if refused else 0
+
+
+def whys(looked: list[Looked]) -> dict[str, str]:
+    """Of each check that refuses one of these, what it means and what to do."""
+    names = dict.fromkeys(tried.outcome for tried in looked if tried.is_refused)
+    return {name: f"{checks()[name].meaning} {advice_for(name)}" for name in names}
 
 
 # What was seen at the last look.
@@ -144,7 +149,7 @@ def mark_and_keep(path: Path, looked: list[Looked]) -> None:
 
 def run(said: argparse.Namespace) -> int:
     """Runs the command, and answers the exit status."""
-    office = folder.opened(said.office, folder.to_errors)
+    office = folder.opened(said.office)
     handed_in = office.handed_in()
     date = composing.settlement_date(said.date, office, handed_in)
     with composing.telling_the_way_out():

@@ -9,20 +9,19 @@ A day that was released is not taken back: what others know of stays. Then anoth
 """
 import argparse
 import datetime
+from pathlib import Path
 
 from registry_tools.calendars import dates
-from registry_tools.errors import FOUND, WordsFault
-from registry_tools.office import (
-    approvals, files, folder, handed, handed_files, handed_journal, journal, merged, past, prepared, words,
-)  # fmt: skip
+from registry_tools.errors import FOUND, WordsFault, raise_first
+from registry_tools.office import approvals, files, handed_files, handed_journal, merged, past, prepared, words
 from registry_tools.office.folder import Office
 from registry_tools.office.handed import FIRST, HandedIn, places
 from registry_tools.office.journal import UNDONE, Event
 from registry_tools.office.waits import write_waits
 from registry_tools.office.whole_change import Change
 from registry_tools.texts.day_text import day_of
-from registry_tools.texts.pairs import read_pair
-from registry_tools.texts.rows import rows_of
+from registry_tools.texts.follows import read_pair
+from registry_tools.texts.rows import rows_of, text_of_rows
 
 EXAMPLE = './day undo 2025-09-24 --why "a surrender was entered for the wrong account" --office out/office'
 
@@ -38,25 +37,19 @@ def add_words(parser: argparse.ArgumentParser) -> None:
 
 def run(said: argparse.Namespace) -> int:
     """Runs the command, and answers the exit status."""
-    who, why = words.one_line("--who", said.who), words.one_line("--why", said.why)
-    with folder.locked(said.office, "undo", who, folder.to_errors, said.seen, said.whom) as office:
+    why = words.one_line("--why", said.why)
+    with words.changing(said, "undo") as office:
         last = last_of(office, said.day)
-        for fault in (*office.changed_files(last), *office.strange_files(last)):
-            # (what comes back has to be what was filed, and nothing else is taken away with it)
-            raise fault
-        date, since = date_again(said.date, office, last), office.handed_in()
+        # (what comes back has to be what was filed, and nothing else is taken away with it)
+        raise_first([*office.changed_files(last), *office.strange_files(last)])
+        date = date_again(said.date, office, last)
         asked = f"--why {why}" if date == last.date else f"--date {date} --why {why}"
-        approved = approvals.let_through(office, "undo", last.date, asked, last.line, who)
+        approved = approvals.let_through(office, "undo", last.date, asked, last.line)
         if approved is None:
             return FOUND
-        event = office.signed(Event(
-            UNDONE, journal.now(), who, last.date, last.first, last.next, last.sums, why, office.journal.last_line
-        ), approved)  # fmt: skip
+        event = office.event(UNDONE, last.date, last.first, last.next, why, last.sums, approved)
         with Change(office) as change:
-            there = handed_files.again(change.make(prepared.NEW_NEXT), event.line, *filed_parts(office, last), date)
-            end = there.end
-            handed_files.put_left(there, since, since.parts)
-            write_waits_before(office, there)
+            there, end = put_again(office, last, date, change.make(prepared.NEW_NEXT), event.line)
             there.keep()
             change.keep(event)
     again = f"what it was made of is in {office.next_folder} again, {places(1, end)}, for {date} or later"
@@ -74,9 +67,8 @@ def last_of(office: Office, word: str | None) -> Event:
     if last is None:
         raise WordsFault(f"{office.path} has no settled day")
     if office.journal.is_released():
-        raise WordsFault(
-            f"{last.date} was released, and is not undone: enter an instruction that corrects what was done"
-        )
+        corrects = "enter an instruction that corrects what was done"
+        raise WordsFault(f"{last.date} was released, and is not undone: {corrects}")
     if named is None:
         raise WordsFault(f"name the day: ./day undo {last.date} takes back the last one")
     if named != last.date:
@@ -95,20 +87,28 @@ def date_again(word: str | None, office: Office, last: Event) -> datetime.date:
     return date
 
 
+def put_again(
+    office: Office, last: Event, date: datetime.date, folder_of_next: Path, line: str
+) -> tuple[HandedIn, int]:
+    """Puts into an empty next/ behind this line what the last day was made of, for this day or later, what was handed
+    in since, and what waits then. Answers all that is there, and the place behind what the day was made of."""
+    since = office.handed_in()
+    there = handed_files.again(folder_of_next, line, *filed_parts(office, last), date)
+    end = there.end
+    handed_files.put_left(there, since, since.parts)
+    write_waits_before(office, there)
+    return there, end
+
+
 def filed_parts(office: Office, last: Event) -> tuple[HandedIn, dict[str, bytes]]:
     """What the day was made of: who handed in what, and the contents by kind."""
     filed = handed_journal.read_journal(office.file(last, "handed"))
     contents = {kind: files.bytes_in(office.file(last, kind)) for kind in merged.MERGED}
-    first = next((part for part in filed.parts if part.kind == FIRST), None)
-    if first:
-        contents[FIRST] = first_text(office, last, first.count)
+    if filed.first:
+        # (the first text as it was before others handed in more)
+        day = day_of(rows_of(str(office.file(last, "day"))))
+        contents[FIRST] = text_of_rows([*day.source.rows[: day.first_do + filed.first.count], "end"])
     return filed, contents
-
-
-def first_text(office: Office, last: Event, count: int) -> bytes:
-    """The first day text as it was before others handed in more: with so many instructions."""
-    day = day_of(rows_of(str(office.file(last, "day"))))
-    return handed.text_of_rows([*day.source.rows[: day.first_do + count], "end"])
 
 
 def write_waits_before(office: Office, there: HandedIn) -> None:
@@ -116,6 +116,6 @@ def write_waits_before(office: Office, there: HandedIn) -> None:
     filed = office.journal.filed()
     if len(filed) > 1:
         before = filed[-2]
-        day_path, report_path = (str(past.as_filed(office, before, key)) for key in past.PAIR)
-        day, report = read_pair(day_path, report_path)
-        write_waits(there.folder, day, report, str(past.as_filed(office, before, "waiting")))
+        day, report = (str(past.as_filed(office, before, key)) for key in past.PAIR)
+        pair = read_pair(day, report)
+        write_waits(there.folder, *pair, str(past.as_filed(office, before, "waiting")))

@@ -4,7 +4,7 @@ import os
 from pathlib import Path
 from typing import Iterator
 
-from registry_tools.errors import FileFault
+from registry_tools.errors import FileFault, of_file
 from registry_tools.office import files, journal, prepared
 from registry_tools.office.folder import Office, tell_left
 from registry_tools.office.journal import Event
@@ -38,14 +38,16 @@ class Change:
             files.sync_tree(self.folder)
         must_be_movable(office, events)
         files.move(self.folder, office.path / PREPARED)
-        left = files.step(office.path / JOURNAL, office.journal.with_event(*events).encode("utf-8", "surrogateescape"))
+        there, text = office.journal, office.journal.with_event(*events)
+        left = files.step(office.path / JOURNAL, text.encode("utf-8", "surrogateescape"))
         try:
             prepared.put_in_place(office.path, what, date)
         except (FileFault, OSError) as fault:
             left = f"the next command puts the rest in place: {fault}"
         tell_left(prepared.what_is_done(what, date), left)
-        with contextlib.suppress(FileFault):
-            office.journal = journal.read(office.path / JOURNAL)
+        there.text, there.columns = text, last.columns
+        for event in events:
+            there.add(event)
 
     def __exit__(self, *_error: object) -> None:
         files.remove_tree(self.folder)
@@ -63,7 +65,7 @@ def must_be_movable(office: Office, events: tuple[Event, ...]) -> None:
             raise FileFault(path, 0, "", "something that the journal does not name", "no such file: take it away first")
     for path in (office.path, office.path / DAYS, office.next_folder, *days):
         if path.exists() and not os.access(path, os.W_OK | os.X_OK):
-            raise FileFault(path, 0, "", "it cannot be written: Permission denied", "")
+            raise of_file(path, "it cannot be written: Permission denied")
 
 
 @contextlib.contextmanager
@@ -72,4 +74,4 @@ def telling(path: Path) -> Iterator[None]:
     try:
         yield
     except OSError as error:
-        raise FileFault(error.filename or path, 0, "", f"it cannot be read or written: {error.strerror}", "") from None
+        raise of_file(error.filename or path, f"it cannot be read or written: {error.strerror}") from None

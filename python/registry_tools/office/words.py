@@ -1,8 +1,11 @@
 """Words that the commands of a folder share."""
 import argparse
+import contextlib
+from collections.abc import Iterator
 
 from registry_tools.errors import WordsFault
-from registry_tools.office.folder import WHERE, user_name
+from registry_tools.office import folder, lock, people, prepared
+from registry_tools.office.folder import WHERE, Office, user_name
 
 
 def add_office(parser: argparse.ArgumentParser) -> None:
@@ -42,3 +45,20 @@ def one_line(name: str, word: str) -> str:
     if not word.strip() or any(not letter.isprintable() for letter in word):
         raise WordsFault(f"{name} has to be some words in one line")
     return word
+
+
+@contextlib.contextmanager
+def changing(said: argparse.Namespace, command: str) -> Iterator[Office]:
+    """The folder that the words name, which is changed in the block, with its lock. What an interrupted command left is
+    put right before. Ends the command if somebody has `seen` the folder in another state than it is in now, or if
+    office.ini does not allow the command to this login, or to the one for `whom` it speaks."""
+    who, path = one_line("--who", said.who), folder.folder_of(said.office)
+    with lock.held(path, command, who):
+        prepared.put_right(path, folder.to_errors)
+        office = folder.read_office(path)
+        office.who, office.login = who, people.login_for(office.people, said.whom)
+        people.must_be_allowed(office.people, office.login, command)
+        if said.seen is not None and said.seen != folder.state_of(office):
+            since = "; ".join(folder.done_since(office, said.seen)) or "another first text stands there"
+            raise WordsFault(f"somebody changed the folder since it was looked at, and nothing was done: {since}")
+        yield office

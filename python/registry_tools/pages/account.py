@@ -1,41 +1,29 @@
 """The pages of accounts: a statement for each holder, with nothing on it that belongs to others."""
-from typing import Iterator
+from typing import Iterator, Sequence
 
 from registry_tools.office.labels import ACCOUNT
 from registry_tools.pages.compliance import amount
 from registry_tools.pages.html import Cells, Markup, Table, facts, heading, paragraph
 from registry_tools.pages.plan import figure
 from registry_tools.pages.settled import Settled, long_date
-from registry_tools.pages.statement import KINDS, ROOT, Balances, DayOfAccounts, Statement
+from registry_tools.pages.statement import KINDS, ROOT, Balances, DayTold, Statement
 from registry_tools.questions import compliance
 from registry_tools.second import rules
 from registry_tools.texts.in_words import grouped
 
 NOTE = (
     "This page shows only what belongs to the account. What other accounts hold is left out, and so are users who do "
-    "not represent it; "
-    "By names only its representatives."
+    "not represent it; By names only its representatives."
 )
 OTHERS = Table(["Day", "Record", "Entry", "By"])
 REFUSED = Table(["Day", "Record", "Instruction", "By", "Refused as", "What to do"])
+WAITED = Table(["Day", "Record", "Instruction", "Outcome"])
 WAITING = Table(["Record", "Instruction", "Proposed", "Due"])
-YEARS = Table(
-    [
-        "Year",
-        "Emissions of the year",
-        "Emissions so far",
-        "Surrendered",
-        "Correction",
-        "Determined",
-        "Figure now",
-        "Verdict",
-    ],
-    ("Emissions of the year", "Emissions so far", "Surrendered", "Correction", "Determined", "Figure now"),
-)
+FIGURES = ["Emissions of the year", "Emissions so far", "Surrendered", "Correction", "Determined", "Figure now"]
+YEARS = Table(["Year", *FIGURES, "Verdict"], FIGURES)
 YEARS_NOTE = paragraph(
     "The figure of a year is surrendered - emissions so far + correction. Figure now is what it would be if the year "
-    "was assessed now: "
-    "it counts all that was surrendered for the period up to this day."
+    "was assessed now: it counts all that was surrendered for the period up to this day."
 )
 TRUSTED = Table(["Account", "In effect from", "State"])
 USERS = Table(["User", "Right"])
@@ -75,9 +63,8 @@ def history_parts(statement: Statement) -> Iterator[Markup]:
     for kind in KINDS:
         if any(held[kind] for _, held in balances):
             yield figure(f"{kind.capitalize()} allowances after each day", chart(kind, balances))
-    yield BALANCES.of(
-        "The balance after each day", [(date, *(grouped(held[kind]) for kind in KINDS)) for date, held in balances]
-    )
+    rows = [(date, *(grouped(held[kind]) for kind in KINDS)) for date, held in balances]
+    yield BALANCES.of("The balance after each day", rows)
 
 
 def years_of(head: rules.Day, account: rules.Account, period: tuple[int, int]) -> range:
@@ -91,14 +78,8 @@ def years_of(head: rules.Day, account: rules.Account, period: tuple[int, int]) -
 def year_row(settled: Settled, account: rules.Account, year: int) -> Cells:
     """The cells of a year."""
     standing = compliance.standing_of(settled.head, account, year, settled.entries)
-    numbers = (
-        account.emissions.get(year),
-        standing.emissions,
-        standing.surrendered,
-        standing.correction,
-        standing.determined,
-        standing.figure,
-    )
+    surrendered, so_far, *others = standing.figures
+    numbers = (account.emissions.get(year), so_far, surrendered, *others)
     return (year, *map(amount, numbers), standing.verdict_in_words)
 
 
@@ -123,10 +104,8 @@ def trusted_parts(settled: Settled, account: rules.Account) -> Iterator[Markup]:
     if not account.trusted:
         yield paragraph("The list is empty.")
         return
-    day = settled.head.date
-    rows = (
-        (number, date, "in effect" if date <= day else "not in effect yet") for number, date in account.trusted.items()
-    )
+    day, dates = settled.head.date, account.trusted.items()
+    rows = ((number, date, "in effect" if date <= day else "not in effect yet") for number, date in dates)
     yield TRUSTED.of("Accounts that this account trusts", rows)
 
 
@@ -138,22 +117,12 @@ def retired_parts(settled: Settled, account: rules.Account) -> Iterator[Markup]:
     own = RETIRED if len(settled.head.periods) == 1 else RETIRED_FOR_PERIODS
     rows = (
         (
-            number,
-            row.date,
-            row.what,
-            row.kind,
-            grouped(row.amount),
-            "reversed" if row.is_reversed else "no",
-            period_of(settled, row),
+            number, row.date, row.what, row.kind, grouped(row.amount), "reversed" if row.is_reversed else "no",
+            settled.period_in_words(row.period) if row.period else "",
         )
         for number, row in account.rows.items()
-    )
+    )  # fmt: skip
     yield own.of("All surrenders and deletions of the account", [row[: len(own.columns)] for row in rows])
-
-
-def period_of(settled: Settled, row: rules.Row) -> str:
-    """The years of the period of a surrender; nothing of a deletion."""
-    return settled.period_in_words(row.period) if row.period else ""
 
 
 def users_parts(account: rules.Account, statement: Statement) -> Iterator[Markup]:
@@ -196,6 +165,13 @@ def refused_parts(statement: Statement) -> Iterator[Markup]:
         yield REFUSED.of("Instructions that were refused", statement.refused)
 
 
+def waited_parts(statement: Statement) -> Iterator[Markup]:
+    """What was not due on its day, if something was."""
+    if statement.waited:
+        yield heading("Not due on its day")
+        yield WAITED.of("Each is entered again by itself on its due day", statement.waited)
+
+
 def waiting_parts(statement: Statement) -> Iterator[Markup]:
     """What waits for its due day, if something does."""
     waiting = [*statement.waiting()]
@@ -220,11 +196,12 @@ def own_parts(settled: Settled, account: rules.Account, statement: Statement) ->
     yield facts_of(settled, account, statement)
     yield from entry_parts(statement)
     yield from refused_parts(statement)
+    yield from waited_parts(statement)
     yield from waiting_parts(statement)
     yield from standing_parts(settled, account, statement)
 
 
-def account_page(settled: Settled, number: int, days: list[DayOfAccounts]) -> str:
+def account_page(settled: Settled, number: int, days: Sequence[DayTold]) -> str:
     """The page of an account; `days` are those of the statement, of which the last one is the settled day."""
     account = settled.report.book[number].account()
     statement = Statement(settled, number, days)

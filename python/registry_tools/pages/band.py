@@ -70,14 +70,12 @@ class Band:
     """Some columns of a picture: where each of its boxes and arrows lies."""
 
     def __init__(self, boxes: dict[int, Box], arrows: Sequence[Arrow], columns: range, names: Names) -> None:
-        self.boxes, row_names, self.column_names = boxes, names.rows, names.columns
+        self.boxes, self.row_names, self.column_names = boxes, names.rows, names.columns
         self.first, self.columns = columns.start, len(columns)
-        self.row_names = row_names
-        self.rows = len(row_names) if row_names else 1 + max(box.row for box in boxes.values())
-        self.own = {place: arrow for place, arrow in enumerate(arrows) if arrow.head in boxes and arrow.tail in boxes}
-        self.short = {
-            place: arrow for place, arrow in enumerate(arrows) if arrow.head in boxes and arrow.tail not in boxes
-        }
+        self.rows = len(self.row_names) or 1 + max(box.row for box in boxes.values())
+        reaching = {place: arrow for place, arrow in enumerate(arrows) if arrow.head in boxes}
+        self.own = {place: arrow for place, arrow in reaching.items() if arrow.tail in boxes}
+        self.short = {place: arrow for place, arrow in reaching.items() if arrow.tail not in boxes}
         self.set_ports()
         self.set_streets()
         self.set_rows()
@@ -89,10 +87,8 @@ class Band:
 
     def set_ports(self) -> None:
         """Numbers the arrows at each box: those that leave it, and those that reach it."""
-        self.port_out: dict[int, int] = {}
-        self.port_in: dict[int, int] = {}
-        out: Counter[int] = Counter()
-        into: Counter[int] = Counter()
+        self.port_out, self.port_in = dict[int, int](), dict[int, int]()
+        out, into = Counter[int](), Counter[int]()
         for place, arrow in sorted({**self.own, **self.short}.items()):
             self.port_in[place] = into[arrow.head]
             into[arrow.head] += 1
@@ -120,9 +116,7 @@ class Band:
 
     def set_rows(self) -> None:
         """The heights of rows and streets, from the top of the band."""
-        self.tops: list[int] = []
-        self.streets: list[int] = []
-        self.heights: list[int] = []
+        self.tops, self.streets, self.heights = list[int](), list[int](), list[int]()
         y = CAPTION if self.column_names else 0
         for row in range(self.rows + 1):
             self.streets.append(y)
@@ -139,10 +133,8 @@ class Band:
 
     def is_straight(self, arrow: Arrow) -> bool:
         """Whether the arrow leads to the next box of its row."""
-        return (
-            self.column(arrow.head) == self.column(arrow.tail) + 1
-            and self.boxes[arrow.head].row == self.boxes[arrow.tail].row
-        )
+        tail, head = self.boxes[arrow.tail], self.boxes[arrow.head]
+        return (head.column, head.row) == (tail.column + 1, tail.row)
 
     def y_out(self, place: int, arrow: Arrow) -> float:
         """How high an arrow leaves its box."""
@@ -221,13 +213,11 @@ class Band:
         """A box with its lines."""
         x, y = self.starts[own.column - self.first], self.tops[own.row]
         height = self.heights[own.row]
-        lines = "".join(
-            line_of(text, x + BOX_WIDTH / 2, y + PADDING + LINE * place + 10, "first" if place == 0 else None)
-            for place, text in enumerate(own.lines)
-        )
+        middle, top = x + BOX_WIDTH / 2, y + PADDING + 10
+        drawn = (line_of(text, middle, top + LINE * place, not place) for place, text in enumerate(own.lines))
         frame = f'<rect class="box" x="{shifted(x)}" y="{shifted(y)}" width="{BOX_WIDTH}" height="{height}" rx="3"/>'
         kind = ' class="refused"' if own.is_refused else ""
-        return f"<g{kind}><title>{markup(own.note)}</title>{frame}{lines}</g>"
+        return f"<g{kind}><title>{markup(own.note)}</title>{frame}{''.join(drawn)}</g>"
 
     def lanes(self) -> Iterator[str]:
         """The lane behind each row that has a name."""
@@ -252,9 +242,9 @@ class Band:
         yield from (self.box(box) for _, box in sorted(self.boxes.items(), key=lambda box: str(box[0])))
 
 
-def line_of(text: str, x: float, y: float, kind: str | None) -> str:
+def line_of(text: str, x: float, y: float, is_first: bool) -> str:
     """A line of a box; a long one is drawn closer, so that it fits."""
     room = BOX_WIDTH - 2 * PADDING
     fitted = f' textLength="{room}" lengthAdjust="spacingAndGlyphs"' if len(text) * LETTER > room else ""
-    own = f' class="{kind}"' if kind else ""
+    own = ' class="first"' if is_first else ""
     return f'<text{own} x="{shifted(x)}" y="{shifted(y)}" text-anchor="middle"{fitted}>{markup(text)}</text>'

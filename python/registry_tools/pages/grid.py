@@ -8,6 +8,7 @@ If there are more columns than fit beside each other, they are cut into bands, o
 another band is drawn as a short one, which names the box that it comes from.
 """
 from collections.abc import Iterator, Sequence
+from dataclasses import replace
 
 from registry_tools.pages.band import BAND, MARGIN, Arrow, Band, Box, Names, shifted
 from registry_tools.pages.html import Markup, markup, style_of
@@ -22,12 +23,8 @@ def bands_of(boxes: dict[int, Box], arrows: Sequence[Arrow], most_columns: int, 
         columns = range(first, min(first + most_columns, last + 1))
         own = {key: box for key, box in boxes.items() if box.column in columns}
         if own:
-            crossing = [
-                arrow
-                if arrow.tail in own
-                else Arrow(arrow.tail, arrow.head, f"from {boxes[arrow.tail].name}", arrow.note)
-                for arrow in arrows
-            ]
+            outside = {key: f"from {boxes[key].name}" for key in boxes if key not in own}
+            crossing = [replace(arrow, label=outside.get(arrow.tail, arrow.label)) for arrow in arrows]
             yield Band(own, crossing, columns, names)
 
 

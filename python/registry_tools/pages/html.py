@@ -79,9 +79,8 @@ def items(rows: Iterable[object]) -> Markup:
 
 def facts(pairs: Iterable[tuple[object, object]]) -> Markup:
     """Names and what they are, a line each. Pairs without a value are left out."""
-    return tag(
-        "dl", *(tag("div", tag("dt", name), tag("dd", value)) for name, value in pairs if value not in (None, ""))
-    )
+    shown = (tag("div", tag("dt", name), tag("dd", value)) for name, value in pairs if value not in (None, ""))
+    return tag("dl", *shown)
 
 
 def words_in_cell(cell: object) -> str:
@@ -112,19 +111,14 @@ class Table:
     """The head of a table: its columns, of which those of `right` hold numbers. The first column names each row."""
 
     def __init__(
-        self,
-        columns: Sequence[str],
-        right: Collection[str] = (),
-        is_short: bool = False,
+        self, columns: Sequence[str], right: Collection[str] = (), is_short: bool = False,
         heads: Sequence[object] | None = None,
-    ) -> None:
+    ) -> None:  # fmt: skip
         """`heads` stand over the columns in place of their names."""
         self.columns, self.right, self.is_short = columns, right, is_short
-        heads = [
-            tag("th", head, scope="col", class_="n" if column in right else None)
-            for column, head in zip(columns, heads or columns)
-        ]
-        self.head = tag("thead", tag("tr", *heads))
+        kinds = ("n" if column in right else None for column in columns)
+        own = [tag("th", head, scope="col", class_=kind) for kind, head in zip(kinds, heads or columns)]
+        self.head = tag("thead", tag("tr", *own))
         self.starts = [self.start(place, column) for place, column in enumerate(columns)]
         self.end = "</td>" if len(columns) > 1 else "</th>"
 
@@ -153,13 +147,9 @@ class Table:
 
 
 def table(
-    caption: object,
-    columns: Sequence[str],
-    rows: Iterable[Cells],
-    right: Collection[str] = (),
-    foot: Sequence[Cells] = (),
-    is_short: bool = False,
-) -> Markup:
+    caption: object, columns: Sequence[str], rows: Iterable[Cells], right: Collection[str] = (),
+    foot: Sequence[Cells] = (), is_short: bool = False,
+) -> Markup:  # fmt: skip
     """A table that is drawn once. A short one has only as much room as a paragraph."""
     return Table(columns, right, is_short).of(caption, rows, foot)
 
@@ -201,30 +191,22 @@ class Frame:
     def navigation(self, root: str, current: str | None) -> Markup:
         """The links to the sections, of which one is the current one."""
         own = ((f"{root}{file}", name, "page" if file == current else None) for file, name in self.sections)
-        return tag(
-            "nav", tag("ul", *(tag("li", link(*page[:2], aria_current=page[2])) for page in own)), aria_label="Pages"
-        )
+        links = (tag("li", link(file, name, aria_current=page)) for file, name, page in own)
+        return tag("nav", tag("ul", *links), aria_label="Pages")
 
     def start(self, root: str, current: str | None, parts: Sequence[str], is_across: bool) -> str:
         """What stands between the title and the content."""
         key = (root, current, is_across, *parts)
         if key not in self.starts:
             style = style_of("colours", "style") + "".join(PARTS[part]() for part in parts)
-            kind = ' class="across"' if is_across else ""
-            self.starts[
-                key
-            ] = f"<style>{style}</style>\n</head>\n<body{kind}>\n{SKIP}\n{self.navigation(root, current)}\n"
+            body = f"<body{ACROSS if is_across else ''}>\n{SKIP}\n{self.navigation(root, current)}\n"
+            self.starts[key] = f"<style>{style}</style>\n</head>\n{body}"
         return self.starts[key]
 
     def page(
-        self,
-        title: object,
-        *body: object,
-        root: str = "",
-        current: str | None = None,
-        note: object = "",
+        self, title: object, *body: object, root: str = "", current: str | None = None, note: object = "",
         is_across: bool = False,
-    ) -> str:
+    ) -> str:  # fmt: skip
         """A page of the folder; `root` leads from it to the folder. It prints on A4, and if it is so, across."""
         content = joined(*body)
         behind = self.start(root, current, [part for part in PARTS if part in content], is_across)
@@ -242,4 +224,4 @@ HEAD = """<!DOCTYPE html>
 <meta name="color-scheme" content="light dark">
 <meta http-equiv="Content-Security-Policy" content="default-src 'none'; style-src 'unsafe-inline'">
 """
-SKIP = '<a class="skip" href="#main">To the content</a>'
+SKIP, ACROSS = '<a class="skip" href="#main">To the content</a>', ' class="across"'

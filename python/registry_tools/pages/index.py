@@ -51,11 +51,6 @@ def of_page(file: str, numbers: Sequence[int]) -> Markup:
     return nav([(f"{file}#{anchor(first)}", words_of(first, last)) for first, last in ranges(numbers, RANGE)])
 
 
-def starts_of(numbers: Sequence[int]) -> set[int]:
-    """The numbers at which a range of a page begins."""
-    return {first for part in rows_of_parts(numbers) for first, _ in ranges(part, RANGE)}
-
-
 def cell(settled: Settled, number: int, is_start: bool) -> Markup | str:
     """The number of an account in the list. Where a range begins, links find it."""
     shown = settled.account_link(number)

@@ -35,16 +35,16 @@ from registry_tools.pages.html import Frame
 from registry_tools.pages.rulebook import FORMATS, RULES, Rulebook, document_page
 from registry_tools.pages.settled import ByHand, Settled, by_hand_before, count_of
 from registry_tools.pages.statement import DayOfAccounts
-from registry_tools.pages.summary import summary_pages
+from registry_tools.pages.summary import DAY, summary_pages
 from registry_tools.pages.workers import workers_page
 from registry_tools.progress import progress
 from registry_tools.texts.day_text import DayText
-from registry_tools.texts.pairs import read_pair
+from registry_tools.texts.follows import read_pair
 from registry_tools.texts.pending import read_pending, waiting_before
 from registry_tools.texts.report import Report
 
 EXAMPLE = "./day page examples/week/monday.csv examples/week/monday-report.csv out/pages --only 100210 100377"
-FILES = {"day": "index.html", "compliance": "compliance.html", "accounts": "accounts.html", "workers": "workers.html"}
+FILES = {"day": DAY, "compliance": "compliance.html", "accounts": "accounts.html", "workers": "workers.html"}
 NAMES = {"day": "The day", "compliance": "Compliance", "accounts": "Accounts", "workers": "Workers"}
 MOST_PROCESSES, SHARE = 4, 500
 # What ends the command.
@@ -58,34 +58,20 @@ def add_words(parser: argparse.ArgumentParser) -> None:
     """Tells a parser the words of the command."""
     add_pair(parser)
     parser.add_argument("folder", metavar="FOLDER", help="the folder that is made")
-    parser.add_argument(
-        "--only", type=int, nargs="+", metavar="ACCOUNT", help="make pages of these accounts only, in place of all"
-    )
-    parser.add_argument(
-        "--year",
-        type=int,
-        metavar="Y",
-        help="the year of compliance.html; else the last one of the current period that is over",
-    )
-    parser.add_argument(
-        "--history",
-        nargs="+",
-        default=[],
-        metavar="DAY REPORT",
-        help="all days before DAY from one on, each with its report: the statements begin with them",
-    )
-    parser.add_argument(
-        "--pending", metavar="FILE", help="the pending file of ./day next: what waits since earlier days is shown too"
-    )
-    parser.add_argument(
-        "--before", nargs=2, metavar=("DAY", "REPORT"), help="the day before: what people changed between is shown"
-    )
-    parser.add_argument(
-        "--by-hand", metavar="FOLDER", help="the folder of the day in a folder of days: who changed something, and why"
-    )
-    parser.add_argument(
-        "--lanes", metavar="FILE", help="who executed what, as `bench_workers lanes WORKERS` writes it"
-    )
+    only = "make pages of these accounts only, in place of all"
+    parser.add_argument("--only", type=int, nargs="+", metavar="ACCOUNT", help=only)
+    year = "the year of compliance.html; else the last one of the current period that is over"
+    parser.add_argument("--year", type=int, metavar="Y", help=year)
+    history = "all days before DAY from one on, each with its report: the statements begin with them"
+    parser.add_argument("--history", nargs="+", default=[], metavar="DAY REPORT", help=history)
+    waits = "the pending file of ./day next: what waits since earlier days is shown too"
+    parser.add_argument("--pending", metavar="FILE", help=waits)
+    before = "the day before: what people changed between is shown"
+    parser.add_argument("--before", nargs=2, metavar=("DAY", "REPORT"), help=before)
+    who = "the folder of the day in a folder of days: who changed something, and why"
+    parser.add_argument("--by-hand", metavar="FOLDER", help=who)
+    lanes = "who executed what, as `bench_workers lanes WORKERS` writes it"
+    parser.add_argument("--lanes", metavar="FILE", help=lanes)
     labels.add_words(parser)
 
 
@@ -103,9 +89,8 @@ def must_be_before(before: DayText, report: Report, after: DayText) -> None:
     """Ends the command if a day with its report is not the one right before another."""
     line = after.line_of_tag("day")
     if before.head.date >= after.head.date:
-        raise FileFault(
-            after.path, line, "DATE", after.head.date, f"a day behind {before.head.date}, that of {before.path}"
-        )
+        later = f"a day behind {before.head.date}, that of {before.path}"
+        raise FileFault(after.path, line, "DATE", after.head.date, later)
     if report.next_record != after.head.next_record:
         follows = f"{report.next_record}, as {report.path}:{report.book_line}: is a day left out?"
         raise FileFault(after.path, line, "NEXT", after.head.next_record, follows)

@@ -5,7 +5,7 @@ from dataclasses import dataclass, field
 
 from registry_tools.pages import grid
 from registry_tools.pages.html import Markup, joined, markup, paragraph, table, tag
-from registry_tools.pages.settled import Settled, count_of, outcome_in_words, record_in_words
+from registry_tools.pages.settled import OUTCOMES, Settled, count_of, kind_of, outcome_in_words, record_in_words
 from registry_tools.texts.in_words import box_lines, grouped
 from registry_tools.texts.report import LogRow
 
@@ -25,6 +25,13 @@ class Task:
     level: int
     tails: list[tuple[int, int]] = field(default_factory=list)
 
+    def accounts(self) -> dict[int, list[str]]:
+        """The accounts at which it waits, by the record that it waits for."""
+        found: dict[int, list[str]] = {}
+        for tail, account in self.tails:
+            found.setdefault(tail, []).append(str(account))
+        return found
+
 
 def plan_of(log: Iterable[LogRow]) -> dict[int, Task]:
     """The tasks by record number. An instruction waits for the one before it at each account that it touches."""
@@ -42,7 +49,7 @@ def plan_of(log: Iterable[LogRow]) -> dict[int, Task]:
 def box_of(logged: LogRow, column: int, row: int) -> grid.Box:
     """The box of an instruction."""
     note = f"{logged.record}: {record_in_words(logged)}; {outcome_in_words(logged)}"
-    outcome = "done" if logged.is_done else f"refused, check {logged.code}"
+    outcome = f"refused, check {logged.code}" if kind_of(logged) == "refused" else kind_of(logged)
     lines = [*box_lines(logged.record, logged.instruction), outcome]
     return grid.Box(column, row, lines, note, str(logged.record), not logged.is_done)
 
@@ -50,10 +57,7 @@ def box_of(logged: LogRow, column: int, row: int) -> grid.Box:
 def arrows_of(tasks: dict[int, Task], records: Collection[int]) -> Iterator[grid.Arrow]:
     """The arrows between these records; one for each pair, with its accounts."""
     for head in records:
-        accounts: dict[int, list[str]] = {}
-        for tail, account in tasks[head].tails:
-            accounts.setdefault(tail, []).append(str(account))
-        for tail, own in accounts.items():
+        for tail, own in tasks[head].accounts().items():
             if tail in records:
                 more = f" +{len(own) - 1}" if len(own) > 1 else ""
                 yield grid.Arrow(tail, head, own[0] + more, f"{head} waits for {tail}: account {', '.join(own)}")
@@ -62,10 +66,7 @@ def arrows_of(tasks: dict[int, Task], records: Collection[int]) -> Iterator[grid
 def both(title: str, boxes: dict[int, grid.Box], arrows: list[grid.Arrow], names: grid.Names = grid.Names()) -> Markup:
     """A picture twice: for wide windows and paper, and for narrow windows. They differ in how many columns stand side
     by side."""
-    return joined(
-        grid.picture(title, boxes, arrows, WIDE, "wide", names),
-        grid.picture(title, boxes, arrows, NARROW, "narrow", names),
-    )
+    return joined(*(grid.picture(title, boxes, arrows, *form, names) for form in ((WIDE, "wide"), (NARROW, "narrow"))))
 
 
 def figure(caption: str, drawing: Markup) -> Markup:
@@ -81,32 +82,22 @@ def places_in_levels(tasks: dict[int, Task]) -> dict[int, tuple[int, int]]:
         levels.setdefault(task.level, []).append(record)
     for level in sorted(levels):
         own = levels[level]
-        middle = {
-            record: sum(row_of[tail] for tail, _ in tasks[record].tails) / len(tasks[record].tails)
-            if tasks[record].tails
-            else own.index(record)
-            for record in own
-        }
+        tails = {record: [row_of[tail] for tail, _ in tasks[record].tails] for record in own}
+        middle = {record: sum(rows) / len(rows) if rows else own.index(record) for record, rows in tails.items()}
         row_of.update({record: row for row, record in enumerate(sorted(own, key=lambda own: (middle[own], own)))})
     return {record: (tasks[record].level - 1, row) for record, row in row_of.items()}
 
 
 def waits_in_words(task: Task) -> str:
     """For which instructions a task waits, and at which accounts."""
-    accounts: dict[int, list[str]] = {}
-    for tail, account in task.tails:
-        accounts.setdefault(tail, []).append(str(account))
-    return "; ".join(f"{tail} ({', '.join(own)})" for tail, own in sorted(accounts.items()))
+    return "; ".join(f"{tail} ({', '.join(own)})" for tail, own in sorted(task.accounts().items()))
 
 
 def plan_table(tasks: Iterable[Task], caption: str) -> Markup:
     """What the picture shows, a row for each instruction, by levels."""
     rows = (
-        (
-            task.logged.record, task.level, record_in_words(task.logged), outcome_in_words(task.logged),
-            waits_in_words(task),
-        )
-        for task in sorted(tasks, key=lambda task: (task.level, task.logged.record))
+        (own.logged.record, own.level, record_in_words(own.logged), outcome_in_words(own.logged), waits_in_words(own))
+        for own in sorted(tasks, key=lambda task: (task.level, task.logged.record))
     )
     columns = ["Record", "Level", "Instruction", "Outcome", "Waits for (account)"]
     return table(caption, columns, rows, right=("Level",))
@@ -147,19 +138,11 @@ def chain_parts(tasks: dict[int, Task]) -> list[Markup]:
     arrows = [*arrows_of(tasks, drawn)]
     said = f"The longest chain: {length}, of which each waits for the one before it"
     if is_cut:
-        arrows.append(
-            grid.Arrow(
-                drawn[CHAIN_ENDS - 1],
-                drawn[CHAIN_ENDS],
-                f"{grouped(len(chain) - len(drawn))} more",
-                "the middle of the chain",
-            )
-        )
+        left_out = f"{grouped(len(chain) - len(drawn))} more"
+        arrows.append(grid.Arrow(drawn[CHAIN_ENDS - 1], drawn[CHAIN_ENDS], left_out, "the middle of the chain"))
         said += f". Its first {CHAIN_ENDS} and its last {CHAIN_ENDS} are shown"
-    return [
-        figure(said, both(said, boxes, arrows)),
-        plan_table([tasks[record] for record in drawn], "The chain in words"),
-    ]
+    table_of_chain = plan_table([tasks[record] for record in drawn], "The chain in words")
+    return [figure(said, both(said, boxes, arrows)), table_of_chain]
 
 
 def bars(title: str, rows: Sequence[tuple[object, int]]) -> Markup:
@@ -179,26 +162,17 @@ def bars(title: str, rows: Sequence[tuple[object, int]]) -> Markup:
 
 def busiest_parts(settled: Settled) -> list[Markup]:
     """The accounts that most instructions touch."""
-    all_touched: Counter[int] = Counter()
-    refused: Counter[int] = Counter()
-    for logged in settled.log:
-        own = logged.touched()
-        all_touched.update(own)
-        if not logged.is_done:
-            refused.update(own)
+    all_touched = Counter(number for logged in settled.log for number in logged.touched())
+    count = Counter((number, kind_of(logged)) for logged in settled.log for number in logged.touched())
     busiest = sorted(all_touched.items(), key=lambda touched: (-touched[1], touched[0]))[:BUSIEST]
     if not busiest:
         return []
     said = "The busiest accounts, by how many instructions touch them"
-    rows = (
-        (settled.account_link(account), grouped(count), grouped(count - refused[account]), grouped(refused[account]))
-        for account, count in busiest
-    )
-    columns = ["Account", "Instructions", "Done", "Refused"]
-    return [
-        figure(said, bars(said, busiest)),
-        table("The busiest accounts in numbers", columns, rows, right=columns[1:]),
-    ]
+    counts = ((account, (of, *(count[account, kind] for kind in OUTCOMES))) for account, of in busiest)
+    rows = [(settled.account_link(account), *map(grouped, own)) for account, own in counts]
+    columns = ["Account", "Instructions", "Done", "Refused", "Waiting"]
+    numbers = table("The busiest accounts in numbers", columns, rows, right=columns[1:])
+    return [figure(said, bars(said, busiest)), numbers]
 
 
 def plan_parts(settled: Settled) -> list[Markup]:
@@ -209,8 +183,7 @@ def plan_parts(settled: Settled) -> list[Markup]:
     levels = Counter(task.level for task in tasks.values())
     lead = paragraph(
         "Instructions that touch the same account are settled one after another. The others can be settled at the same "
-        "time: those of "
-        f"one level. This day has {count_of(len(levels), 'level', 'levels')}; the largest has "
+        f"time: those of one level. This day has {count_of(len(levels), 'level', 'levels')}; the largest has "
         f"{count_of(max(levels.values()), 'instruction', 'instructions')}."
     )
     if len(tasks) <= MOST_BOXES:

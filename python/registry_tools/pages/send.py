@@ -45,9 +45,8 @@ EXAMPLE = "./day send out/sent --day 2025-09-24 --holder 5502 --office out/offic
 def add_words(parser: argparse.ArgumentParser) -> None:
     """Tells a parser the words of the command."""
     parser.add_argument("folder", metavar="FOLDER", help="the folder that is made")
-    parser.add_argument(
-        "--day", metavar="DATE", help="the last day of the statements; without it, the last settled one"
-    )
+    last = "the last day of the statements; without it, the last settled one"
+    parser.add_argument("--day", metavar="DATE", help=last)
     parser.add_argument("--from", dest="begin", metavar="DATE", help="the first day; without it, the last one alone")
     parser.add_argument("--holder", type=int, nargs="+", metavar="H", help="only these holders")
     labels.add_words(parser)
@@ -148,7 +147,7 @@ def source_of_folder(said: argparse.Namespace, stack: contextlib.ExitStack) -> S
     """The pair of the last day is read, and of earlier days what the index has of the accounts of a holder."""
     if said.pending:
         raise WordsFault("--pending is for --pairs: a folder knows what waits")
-    office = folder.opened(said.office, folder.to_errors)
+    office = folder.opened(said.office)
     filed = office.journal.filed()
     *days, event = (filed[place] for place in places_between([own.date for own in filed], said.begin, said.day))
     names = labels.of_folder(office.path) if said.labels is None else labels.read(said.labels)
@@ -192,7 +191,8 @@ def run(said: argparse.Namespace) -> int:
     """Runs the command, and answers the exit status."""
     with contextlib.ExitStack() as stack:
         source = source_of(said, stack)
-        who, released = words.one_line("--who", said.who), release_of(said, source)
+        words.one_line("--who", said.who)
+        released = release_of(said, source)
         if source.office and source.event:
             look_at_folder(said, source.office, source.event)
         last = DayTold(source.last)
@@ -207,7 +207,7 @@ def run(said: argparse.Namespace) -> int:
                     made.write(f"{holder}-{number}.csv", statement_from(days[place:], number))
             if released:
                 # (all letters are there, and get their names behind it: no day is taken back behind its letters)
-                release.release(said, released, who, f"letters in {said.folder}")
+                release.release(said, released, f"letters in {said.folder}")
     print(f"{said.folder}: packages {len(holders)}, accounts {sum(map(len, holders.values()))}")
     return 0
 

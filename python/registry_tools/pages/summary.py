@@ -1,5 +1,6 @@
 """The page of the day, and the pages of its refusals, if there are many."""
 from collections import Counter
+from dataclasses import dataclass
 from typing import Callable, Iterator
 
 from registry_tools.pages import index
@@ -7,7 +8,7 @@ from registry_tools.pages.html import Cells, Markup, Table, link, paragraph, tab
 from registry_tools.pages.plan import plan_parts
 from registry_tools.pages.rulebook import ACTS
 from registry_tools.pages.settled import (
-    NO_DUE_DAY, ByHand, LongTable, Settled, by_hand_parts, count_of, long_date, record_in_words,
+    NO_DUE_DAY, OUTCOMES, ByHand, LongTable, Settled, by_hand_parts, count_of, kind_of, long_date, record_in_words,
 )  # fmt: skip
 from registry_tools.second.rules import KINDS
 from registry_tools.texts.books import Movements, sums_of
@@ -15,48 +16,39 @@ from registry_tools.texts.checks import Check
 from registry_tools.texts.in_words import grouped, instruction_in_words
 from registry_tools.texts.report import LogRow
 
-# Of a check with more refusals, the page of the day shows the first ones, and pages of their own show all; so of what
-# was done.
-MOST_REFUSED = MOST_DONE = 100
+# Of more instructions that a check refused, that were done or that wait, the page of the day shows the first ones.
+MOST_SHOWN = 100
 LOG_COLUMNS = ["Record", "Accounts", "Instruction", "Proposed", "Proposer", "Approver"]
 DONE, DONE_CAPTION = "done.html", "Instructions that were done"
 WAITING, WAITING_COLUMNS = "waiting.html", ["Record", "Instruction", "Proposed", "Due"]
 WAITING_CAPTION = "Instructions that wait for their due day"
-WAY_BACK = "The page of the day"
+DAY, WAY_BACK = "index.html", "The page of the day"
 ENTERED_AGAIN = "./day next and ./day close enter each of them again on its due day, with its old date of proposal."
 ELSEWHERE = "What waits since earlier days stands in the pending file of ./day next."
 
 
 def lead(settled: Settled) -> Markup:
     """The first sentences of the page."""
-    log = settled.log
+    log, next_one = settled.log, f"The next record number is {settled.report.next_record}."
     if not log:
-        return paragraph(
-            f"The day has no instruction. The next record number is {settled.report.next_record}.", class_="lead"
-        )
-    done = sum(logged.is_done for logged in log)
-    numbers = (
-        f"record number {log[0].record}" if len(log) == 1 else f"record numbers {log[0].record} to {log[-1].record}"
-    )
-    return paragraph(
-        f"{count_of(len(log), 'instruction', 'instructions')} got the {numbers}: {grouped(done)} done, "
-        f"{grouped(len(log) - done)} refused. The next record number is {settled.report.next_record}.",
-        class_="lead",
-    )
+        return paragraph(f"The day has no instruction. {next_one}", class_="lead")
+    count = Counter(map(kind_of, log))
+    numbers = f"numbers {log[0].record} to {log[-1].record}" if len(log) > 1 else f"number {log[0].record}"
+    outcome = f"{grouped(count['done'])} done, {grouped(count['refused'])} refused"
+    waiting = f", {grouped(count['waiting'])} waiting for their due day" if count["waiting"] else ""
+    got = f"{count_of(len(log), 'instruction', 'instructions')} got the record {numbers}"
+    return paragraph(f"{got}: {outcome}{waiting}. {next_one}", class_="lead")
 
 
 def acts_table(settled: Settled) -> Markup:
-    """How many instructions of each act were done and refused."""
-    done = Counter(logged.instruction.act for logged in settled.log if logged.is_done)
-    refused = Counter(logged.instruction.act for logged in settled.log if not logged.is_done)
-    rows = [
-        (settled.rulebook.act_link(act), grouped(done[act]), grouped(refused[act]), grouped(done[act] + refused[act]))
-        for act in ACTS
-        if done[act] + refused[act]
-    ]
-    foot = ("all acts", grouped(done.total()), grouped(refused.total()), grouped(len(settled.log)))
-    columns = ["Act", "Done", "Refused", "All"]
-    return table("Instructions by act", columns, rows, right=columns[1:], foot=[foot], is_short=True)
+    """How many instructions of each act were done and refused, and how many wait."""
+    count = Counter((own.instruction.act, kind) for own in settled.log for kind in (kind_of(own), "all"))
+    columns = (*OUTCOMES, "all")
+    acts = [act for act in ACTS if count[act, "all"]]
+    rows = [(settled.rulebook.act_link(act), *(grouped(count[act, kind]) for kind in columns)) for act in acts]
+    foot = ("all acts", *(grouped(sum(count[act, kind] for act in acts)) for kind in columns))
+    heads = ["Act", *(kind.capitalize() for kind in columns)]
+    return table("Instructions by act", heads, rows, right=heads[1:], foot=[foot], is_short=True)
 
 
 def totals_parts(settled: Settled) -> list[Markup]:
@@ -94,13 +86,10 @@ def equation(kind: str, before: int, moved: Movements, after: int) -> Markup:
     """The equation of conservation in a line, and whether it holds."""
     created, deleted, undeleted = moved.created[kind], moved.deleted[kind], moved.undeleted[kind]
     expected = before + created - deleted + undeleted
-    sum_in_words = (
-        f"{grouped(before)} + {grouped(created)} - {grouped(deleted)} + {grouped(undeleted)} = {grouped(expected)}"
-    )
+    added = f"{grouped(before)} + {grouped(created)} - {grouped(deleted)} + {grouped(undeleted)} = {grouped(expected)}"
     verdict = "It adds up." if expected == after else f"It does not add up: the report has {grouped(after)}."
-    return paragraph(
-        f"{kind.capitalize()}: {sum_in_words}. ", tag("strong", verdict, class_=None if expected == after else "alert")
-    )
+    told = tag("strong", verdict, class_=None if expected == after else "alert")
+    return paragraph(f"{kind.capitalize()}: {added}. ", told)
 
 
 def log_cells(settled: Settled, logged: LogRow) -> Cells:
@@ -112,56 +101,65 @@ def log_cells(settled: Settled, logged: LogRow) -> Cells:
     return logged.record, accounts, words, i.proposed, proposer, approver
 
 
-def done_rows(settled: Settled) -> list[Cells]:
-    """The rows of what was done."""
-    return [log_cells(settled, logged) for logged in settled.log if logged.is_done]
+@dataclass
+class Shown:
+    """Instructions of which the page of the day shows all, or if they are many the first ones, and pages of their own
+    all: the file of these, their title and what stands first on them; and how the link to them goes on."""
+
+    file: str
+    title: str
+    caption: str
+    columns: list[str]
+    rows: list[Cells]
+    lead: list[Markup]
+    which: str
+
+    def parts(self) -> Iterator[Markup]:
+        """The table on the page of the day."""
+        count = grouped(len(self.rows))
+        first = f": the first {MOST_SHOWN} of {count}" if len(self.rows) > MOST_SHOWN else ""
+        yield table(self.caption + first, self.columns, self.rows[:MOST_SHOWN])
+        if first:
+            yield paragraph(link(self.file, f"All {count} that {self.which}"))
+
+    def pages(self, settled: Settled, note: str) -> Iterator[tuple[str, str]]:
+        """The pages of all of them, if the page of the day does not show all."""
+        if len(self.rows) > MOST_SHOWN:
+            own = LongTable(self.file, self.title, Table(self.columns), self.caption, self.rows, self.lead)
+            yield from own.pages(settled.frame, note=note)
+
+
+def way_back(anchor: str = "") -> Markup:
+    """The link to the page of the day."""
+    return paragraph(link(f"{DAY}{anchor}", WAY_BACK))
+
+
+def done_of(settled: Settled) -> Shown:
+    """What was done."""
+    rows = [log_cells(settled, logged) for logged in settled.log if logged.is_done]
+    return Shown(DONE, f"Done on {settled.head.date}", DONE_CAPTION, LOG_COLUMNS, rows, [way_back()], "were done")
 
 
 def done_parts(settled: Settled) -> list[Markup]:
     """The instructions that were done; of many, the first ones."""
-    rows = done_rows(settled)
-    if not rows:
-        return [paragraph("No instruction was done.")]
-    if len(rows) <= MOST_DONE:
-        return [table(DONE_CAPTION, LOG_COLUMNS, rows)]
-    shown = table(f"{DONE_CAPTION}: the first {MOST_DONE} of {grouped(len(rows))}", LOG_COLUMNS, rows[:MOST_DONE])
-    return [shown, paragraph(link(DONE, f"All {grouped(len(rows))} that were done"))]
+    own = done_of(settled)
+    return [*own.parts()] if own.rows else [paragraph("No instruction was done.")]
 
 
-def done_pages(settled: Settled, files: dict[str, str], note: str) -> Iterator[tuple[str, str]]:
-    """The pages of all instructions that were done, if the page of the day does not show all of them."""
-    rows = done_rows(settled)
-    if len(rows) > MOST_DONE:
-        first = [paragraph(link(files["day"], WAY_BACK))]
-        title = f"Done on {settled.head.date}"
-        yield from LongTable(DONE, title, Table(LOG_COLUMNS), DONE_CAPTION, rows, first).pages(settled.frame, note=note)
-
-
-def refused_page(code: int) -> str:
-    """The file of the page of a check that refused much."""
-    return f"refused-{code}.html"
+def refused_by(settled: Settled, code: int, refused: list[LogRow]) -> Shown:
+    """What a check refused."""
+    check, rows = settled.rulebook.checks[code], [log_cells(settled, logged) for logged in refused]
+    caption, lead = f"Refused as {check.name}", [way_back(f"#refused-{code}"), *meaning(settled, check)]
+    title, which = f"{caption} on {settled.head.date}", f"were refused as {check.name}"
+    return Shown(f"refused-{code}.html", title, caption, LOG_COLUMNS, rows, lead, which)
 
 
 def refusals_of(settled: Settled, code: int, own: list[LogRow]) -> Iterator[Markup]:
     """A check with its meaning, its remedy and the instructions that it refused."""
-    rulebook, check = settled.rulebook, settled.rulebook.checks[code]
-    rows = [log_cells(settled, logged) for logged in own[:MOST_REFUSED]]
-    caption = (
-        f"Refused as {check.name}"
-        if len(rows) == len(own)
-        else f"Refused as {check.name}: the first {len(rows)} of {grouped(len(own))}"
-    )
-    yield tag(
-        "h3",
-        f"{code} ",
-        rulebook.check_link(code),
-        f": {count_of(len(own), 'instruction', 'instructions')}",
-        id=f"refused-{code}",
-    )
-    yield from meaning(settled, check)
-    yield table(caption, LOG_COLUMNS, rows)
-    if len(rows) < len(own):
-        yield paragraph(link(refused_page(code), f"All {grouped(len(own))} that were refused as {check.name}"))
+    count, name = count_of(len(own), "instruction", "instructions"), settled.rulebook.check_link(code)
+    yield tag("h3", f"{code} ", name, f": {count}", id=f"refused-{code}")
+    yield from meaning(settled, settled.rulebook.checks[code])
+    yield from refused_by(settled, code, own).parts()
 
 
 def meaning(settled: Settled, check: Check) -> Iterator[Markup]:
@@ -175,10 +173,8 @@ def refusals_parts(settled: Settled) -> list[Markup]:
     refused = settled.refused()
     if not refused:
         return [paragraph("No instruction was refused.")]
-    rows = (
-        (link(f"#refused-{code}", f"{code} {settled.rulebook.checks[code].name}"), grouped(len(own)))
-        for code, own in refused.items()
-    )
+    names = {code: settled.rulebook.checks[code].name for code in refused}
+    rows = ((link(f"#refused-{code}", f"{code} {names[code]}"), grouped(len(own))) for code, own in refused.items())
     return [
         table("Refusals by check", ["Check", "Refused"], rows, right=("Refused",), is_short=True),
         *(part for code, own in refused.items() for part in refusals_of(settled, code, own)),
@@ -198,46 +194,20 @@ def waiting_rows(settled: Settled) -> list[Cells]:
     return [(waits.record or "", instruction_in_words(i), i.proposed, waits.due or NO_DUE_DAY) for waits, i in pairs]
 
 
+def waiting_of(settled: Settled) -> Shown:
+    """What waits."""
+    rows, lead = waiting_rows(settled), [way_back(), paragraph(waiting_note(settled))]
+    title = f"Waiting after {settled.head.date}"
+    return Shown(WAITING, title, WAITING_CAPTION, WAITING_COLUMNS, rows, lead, "wait")
+
+
 def waiting_instructions(settled: Settled) -> list[Markup]:
     """The instructions that wait for their due day; of many, the first ones."""
-    rows = waiting_rows(settled)
-    if not rows:
-        return [
-            paragraph(
-                "No instruction waits." if settled.has_pending else f"No instruction of this day waits. {ELSEWHERE}"
-            )
-        ]
-    note = paragraph(waiting_note(settled))
-    if len(rows) <= MOST_REFUSED:
-        return [note, table(WAITING_CAPTION, WAITING_COLUMNS, rows)]
-    first = f"{WAITING_CAPTION}: the first {MOST_REFUSED} of {grouped(len(rows))}"
-    shown = table(first, WAITING_COLUMNS, rows[:MOST_REFUSED])
-    return [note, shown, paragraph(link(WAITING, f"All {grouped(len(rows))} that wait"))]
-
-
-def waiting_pages(settled: Settled, files: dict[str, str], note: str) -> Iterator[tuple[str, str]]:
-    """The pages of all instructions that wait, if the page of the day does not show all of them."""
-    rows = waiting_rows(settled)
-    if len(rows) > MOST_REFUSED:
-        first = [paragraph(link(files["day"], WAY_BACK)), paragraph(waiting_note(settled))]
-        title = f"Waiting after {settled.head.date}"
-        yield from LongTable(WAITING, title, Table(WAITING_COLUMNS), WAITING_CAPTION, rows, first).pages(
-            settled.frame, note=note
-        )
-
-
-def refused_pages(settled: Settled, files: dict[str, str], note: str) -> Iterator[tuple[str, str]]:
-    """The pages of each check that refused more than the page of the day shows."""
-    for code, own in settled.refused().items():
-        if len(own) > MOST_REFUSED:
-            check = settled.rulebook.checks[code]
-            rows = [log_cells(settled, logged) for logged in own]
-            first = [paragraph(link(f"{files['day']}#refused-{code}", WAY_BACK)), *meaning(settled, check)]
-            title = f"Refused as {check.name} on {settled.head.date}"
-            own_table = LongTable(
-                refused_page(code), title, Table(LOG_COLUMNS), f"Refused as {check.name}", rows, first
-            )
-            yield from own_table.pages(settled.frame, note=note)
+    own = waiting_of(settled)
+    if not own.rows:
+        none = "No instruction waits." if settled.has_pending else f"No instruction of this day waits. {ELSEWHERE}"
+        return [paragraph(none)]
+    return [paragraph(waiting_note(settled)), *own.parts()]
 
 
 def sections(settled: Settled, files: dict[str, str], by_hand: ByHand) -> Iterator[tuple[str, list[Markup]]]:
@@ -257,6 +227,6 @@ def summary_pages(settled: Settled, files: dict[str, str], by_hand: ByHand, note
     parts = [part for name, own in sections(settled, files, by_hand) if own for part in (tag("h2", name), *own)]
     title = f"Settlement day: {long_date(settled.head.date)}"
     yield files["day"], settled.frame.page(title, lead(settled), *parts, current=files["day"], note=note)
-    yield from waiting_pages(settled, files, note)
-    yield from done_pages(settled, files, note)
-    yield from refused_pages(settled, files, note)
+    checks = (refused_by(settled, code, own) for code, own in settled.refused().items())
+    for shown in (waiting_of(settled), done_of(settled), *checks):
+        yield from shown.pages(settled, note)

@@ -42,23 +42,13 @@ def lanes_of(path: str, settled: Settled, tasks: dict[int, Task]) -> tuple[list[
     records = [[first + place - 1 for place in lane] for lane in lanes]
     found = sorted(record for lane in records for record in lane)
     if found != [*tasks]:
-        raise FileFault(
-            path,
-            0,
-            "",
-            f"{len(found)} places",
-            f"each place from 1 to {len(tasks)} once, as {settled.day.path} has them",
-        )
+        expected = f"each place from 1 to {len(tasks)} once, as {settled.day.path} has them"
+        raise FileFault(path, 0, "", f"{len(found)} places", expected)
     arrows = [(tail, head) for head, task in tasks.items() for tail, _ in task.tails]
     column = columns_of_lanes(records, arrows)
     if column is None:
-        raise FileFault(
-            path,
-            0,
-            "",
-            "an order in which an instruction does not wait for another one",
-            "an order that follows the plan",
-        )
+        why = "an order in which an instruction does not wait for another one"
+        raise FileFault(path, 0, "", why, "an order that follows the plan")
     owner = owners_of(records)
     for bundle in bundles_of(tasks):
         if len({owner[record] for record in bundle}) > 1:
@@ -79,11 +69,8 @@ def name_of(worker: int) -> str:
 
 def lanes_parts(tasks: dict[int, Task], records: list[list[int]], column: dict[int, int]) -> Iterator[Markup]:
     """The lanes as a picture, with the arrows of the plan, and as a table."""
-    boxes = {
-        record: box_of(tasks[record].logged, column[record], worker)
-        for worker, lane in enumerate(records)
-        for record in lane
-    }
+    places = [(record, worker) for worker, lane in enumerate(records) for record in lane]
+    boxes = {record: box_of(tasks[record].logged, column[record], worker) for record, worker in places}
     names = Names(rows=[name_of(worker) for worker in range(len(records))])
     said = f"A lane for each of {count_of(len(records), 'worker', 'workers')}, with the arrows of the plan"
     yield figure(said, both(said, boxes, [*arrows_of(tasks, tasks)], names))
@@ -92,24 +79,17 @@ def lanes_parts(tasks: dict[int, Task], records: list[list[int]], column: dict[i
         for worker, lane in enumerate(records)
         for place, record in enumerate(lane, 1)
     )
-    yield table(
-        "The lanes in words", ["Worker", "Its turn", "Record", "Instruction", "Outcome"], rows, right=("Its turn",)
-    )
+    columns = ["Worker", "Its turn", "Record", "Instruction", "Outcome"]
+    yield table("The lanes in words", columns, rows, right=("Its turn",))
 
 
 def owned_parts(tasks: dict[int, Task], records: list[list[int]]) -> Iterator[Markup]:
     """Which worker owned the region of which bundle."""
     owner = owners_of(records)
     bundles = sorted(bundles_of(tasks), key=lambda bundle: (owner[bundle[0]], -len(bundle)))
-    rows = (
-        (name_of(owner[bundle[0]]), ", ".join(map(str, bundle)), grouped(len(bundle))) for bundle in bundles
-    )
-    yield table(
-        "Who owned which instructions that belong together",
-        ["Worker", "Records", "Instructions"],
-        rows,
-        right=("Instructions",),
-    )
+    rows = ((name_of(owner[own[0]]), ", ".join(map(str, own)), grouped(len(own))) for own in bundles)
+    columns = ["Worker", "Records", "Instructions"]
+    yield table("Who owned which instructions that belong together", columns, rows, right=("Instructions",))
 
 
 def shares_parts(tasks: dict[int, Task], records: list[list[int]]) -> Iterator[Markup]:

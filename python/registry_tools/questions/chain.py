@@ -19,22 +19,21 @@ exit status: 0 if nothing was found, else 1.
 import argparse
 import itertools
 
-from registry_tools import tables
 from registry_tools.calendars.due_days import Waits
 from registry_tools.calendars.working_days import Calendars
 from registry_tools.engine import NotSettled, Settler, settler_of
-from registry_tools.errors import FOUND, FileFault, WordsFault, shown
+from registry_tools.errors import FOUND, FileFault, WordsFault, of_file, shown
 from registry_tools.findings import Findings
 from registry_tools.notes import counted
-from registry_tools.options import add_to
+from registry_tools.options import add_engine, add_to
 from registry_tools.output import write_answer
 from registry_tools.progress import progress
 from registry_tools.questions.allowances import Balance, count_changes, look_at_allowances
-from registry_tools.second import faults, rules
+from registry_tools.second import rules
 from registry_tools.texts.accounts import Block
 from registry_tools.texts.books import Sums, sums_of
 from registry_tools.texts.changes import differences_of, refusals, why_not
-from registry_tools.texts.day_text import DayText, read_blocks, read_day
+from registry_tools.texts.day_text import DayText, read_blocks, read_day, reading_of_any_day
 from registry_tools.texts.follows import differences, line_behind
 from registry_tools.texts.headings import heading_differences, lost_period
 from registry_tools.texts.report import Report, read_report
@@ -48,19 +47,11 @@ EXAMPLE = (
 
 def add_words(parser: argparse.ArgumentParser) -> None:
     """Tells a parser the words of the command."""
-    parser.add_argument(
-        "files", metavar="DAY REPORT", nargs="+", help="day texts, each with its report behind it, in order"
-    )
-    parser.add_argument(
-        "--settle",
-        metavar="PROGRAM",
-        nargs="?",
-        const=True,
-        help="settle each day again: by a program, such as ./run, or else the library",
-    )
-    parser.add_argument(
-        "--changes", metavar="FILE", nargs="+", default=[], help="files that were given to ./day next as changes"
-    )
+    pairs = "day texts, each with its report behind it, in order"
+    parser.add_argument("files", metavar="DAY REPORT", nargs="+", help=pairs)
+    add_engine(parser, "--settle", "settle each day again: by a program, such as ./run, or else the library")
+    changes = "files that were given to ./day next as changes"
+    parser.add_argument("--changes", metavar="FILE", nargs="+", default=[], help=changes)
     add_to(parser)
 
 
@@ -73,7 +64,7 @@ def settle_again(settler: Settler, day: DayText, report: Report, found: Findings
     try:
         settled = settler.settle(bytes_of(day.path))
     except NotSettled as fault:
-        found.add(FileFault(day.path, 0, "", str(fault), ""))
+        found.add(of_file(day.path, str(fault)))
         return
     if settled != bytes_of(report.path):
         pairs = enumerate(itertools.zip_longest(settled.split(b"\n"), bytes_of(report.path).split(b"\n")), 1)
@@ -96,9 +87,8 @@ def look_at_next_day(before: DayText, report: Report, day: DayText, changes: "Ch
     """Whether a day begins as the report of the day before ends."""
     line = day.line_of_tag("day")
     if day.head.date <= before.head.date:
-        found.add(
-            FileFault(day.path, line, "DATE", day.head.date, f"a day after {before.head.date}, that of {before.path}")
-        )
+        later = f"a day after {before.head.date}, that of {before.path}"
+        found.add(FileFault(day.path, line, "DATE", day.head.date, later))
     if day.head.next_record != report.next_record:
         expected = f"{report.next_record}, as {report.path}:{report.book_line}"
         found.add(FileFault(day.path, line, "NEXT", day.head.next_record, expected))
@@ -109,9 +99,8 @@ def look_at_next_day(before: DayText, report: Report, day: DayText, changes: "Ch
         found.add_by_hand(fault)
     if is_copied_from(before, report, day):
         first = next(block for block in day.book.values() if block.rows != report.book[block.number].rows)
-        found.add(
-            FileFault(day.path, first.line, "accounts", f"the accounts of {before.path}", f"those of {report.path}")
-        )
+        copied = f"the accounts of {before.path}"
+        found.add(FileFault(day.path, first.line, "accounts", copied, f"those of {report.path}"))
     for number in sorted({*report.book, *day.book}):
         look_at_account(report, day, number, changes, found)
 
@@ -136,9 +125,8 @@ def look_at_account(report: Report, day: DayText, number: int, changes: "Changes
         return
     agreed = changes.place_of(new)
     if old is None:
-        fault = FileFault(
-            day.path, new.line, "account", f"account {number}, which is new", f"the accounts of {report.path}"
-        )
+        is_new = f"account {number}, which is new"
+        fault = FileFault(day.path, new.line, "account", is_new, f"the accounts of {report.path}")
         found.add_by_hand(fault, agreed)
         for fault in refusals(None, new):
             found.add(fault)
@@ -146,13 +134,8 @@ def look_at_account(report: Report, day: DayText, number: int, changes: "Changes
     for difference in differences_of(old.rows, new.rows):
         place = f"{report.path}:{old.line_of(difference.place_before or 0)}"
         line, why = new.line_of(difference.place_after or 0), why_not(difference)
-        fault = FileFault(
-            day.path,
-            line,
-            f"{difference.name} of account {number}",
-            difference.found,
-            f"{difference.expected}, as {place}",
-        )
+        name, expected = f"{difference.name} of account {number}", f"{difference.expected}, as {place}"
+        fault = FileFault(day.path, line, name, difference.found, expected)
         if why:
             found.add(fault)
         else:
@@ -165,10 +148,8 @@ class Changes:
     def __init__(self, paths: list[str]) -> None:
         self.blocks: dict[int, list[Block]] = {}
         self.unused = [*paths]
-        years = [*range(tables.MOST_PERIODS)]
         for path in paths:
-            reading = faults.Reading(last="work", version=2, next_record=tables.MOST_RECORD + 1, last_years=years)
-            for number, block in read_blocks(path, reading).items():
+            for number, block in read_blocks(path, reading_of_any_day()).items():
                 self.blocks.setdefault(number, []).append(block)
 
     def place_of(self, block: Block) -> str:
@@ -183,10 +164,8 @@ class Changes:
 
     def in_words(self) -> list[str]:
         """A line for each file of which no day has anything."""
-        return [
-            f"{path}: nothing of this file was applied: no day has one of its accounts as a change"
-            for path in self.unused
-        ]
+        nothing = "nothing of this file was applied: no day has one of its accounts as a change"
+        return [f"{path}: {nothing}" for path in self.unused]
 
 
 # All together.

@@ -35,14 +35,13 @@ from registry_tools.errors import FOUND, WordsFault
 from registry_tools.office import labels
 from registry_tools.office.labels import Labels
 from registry_tools.options import add_pair
-from registry_tools.output import write_answer
 from registry_tools.progress import progress
 from registry_tools.second import rules
 from registry_tools.showing import Cell
 from registry_tools.texts.day_text import DayText
 from registry_tools.texts.in_words import grouped, table_lines
 from registry_tools.texts.outdated import Entries, was_once_right
-from registry_tools.texts.pairs import read_pair
+from registry_tools.texts.follows import read_pair
 from registry_tools.texts.report import Report
 
 EXAMPLE = "./day compliance examples/week/monday.csv examples/week/monday-report.csv --year 2024"
@@ -72,6 +71,11 @@ class Standing:
     verdict: str
 
     @property
+    def figures(self) -> tuple[int | None, ...]:
+        """What is shown of it in numbers, from what was surrendered to the figure of now."""
+        return self.surrendered, self.emissions, self.correction, self.determined, self.figure
+
+    @property
     def missing(self) -> int | None:
         """How many allowances are missing now; None if that is not known, or nobody asks for it."""
         return None if self.figure is None or self.verdict == EXCLUDED else max(0, -self.figure)
@@ -99,9 +103,8 @@ def last_year_over(head: rules.Day) -> int:
     first, last = head.periods[head.current - 1]
     year = min(last, head.date.year - 1)
     if year < first:
-        raise WordsFault(
-            f"no year of the current period, {first} to {last}, is over on {head.date}: name a year by --year"
-        )
+        there = f"no year of the current period, {first} to {last}, is over on {head.date}"
+        raise WordsFault(f"{there}: name a year by --year")
     return year
 
 
@@ -140,17 +143,10 @@ def standing_of(head: rules.Day, account: rules.Account, year: int, entries: Ent
     have_changed = entries.have_changed(account.number, first, year) if entries else None
     if have_changed is None:
         have_changed = determined is not None and not was_once_right(account, period, determined, emitted)
-    return Standing(
-        account=account,
-        year=year,
-        surrendered=account.surrendered_for(period),
-        emissions=emitted,
-        correction=account.corrections.get(period, 0),
-        determined=determined,
-        figure=figure,
-        years_without_emissions=[each for each in years if each not in account.emissions],
-        verdict=verdict_of(account, determined, figure, have_changed and determined != figure),
-    )
+    missing_years = [each for each in years if each not in account.emissions]
+    verdict = verdict_of(account, determined, figure, have_changed and determined != figure)
+    surrendered, correction = account.surrendered_for(period), account.corrections.get(period, 0)
+    return Standing(account, year, surrendered, emitted, correction, determined, figure, missing_years, verdict)
 
 
 def standings(day: DayText, report: Report, year: int) -> Iterator[Standing]:
@@ -184,18 +180,8 @@ def compliant_share(day: DayText, report: Report, year: int) -> tuple[int, int]:
 def cells(standing: Standing) -> list[Cell]:
     """The columns of an account."""
     own = standing.account
-    start: list[Cell] = [
-        own.number,
-        own.kind,
-        own.holder,
-        own.status,
-        standing.year,
-        standing.surrendered,
-        standing.emissions,
-        standing.correction,
-    ]
     verdict = standing.verdict if standing.verdict == MISSING else standing.verdict_in_words
-    return [*start, standing.determined, standing.figure, verdict, standing.missing]
+    return [own.number, own.kind, own.holder, own.status, standing.year, *standing.figures, verdict, standing.missing]
 
 
 def counts(rows: Sequence[Standing]) -> list[str]:
@@ -203,32 +189,22 @@ def counts(rows: Sequence[Standing]) -> list[str]:
     of = {verdict: sum(own.verdict == verdict for own in rows) for verdict in VERDICTS}
     missing = sum(own.missing or 0 for own in rows)
     said = ", ".join(f"{count} {verdict}" for verdict, count in of.items() if count)
-    lines = [
-        f"accounts {len(rows)}: {said or 'none'}",
-        f"{grouped(missing)} allowances are missing now, as far as there are figures",
-    ]
+    lines = [f"accounts {len(rows)}: {said or 'none'}"]
+    lines.append(f"{grouped(missing)} allowances are missing now, as far as there are figures")
     return [*lines, *closed_words(rows)]
 
 
 def closed_words(rows: Iterable[Standing]) -> list[str]:
     """A line on the closed accounts about which something would have to be done, if there are some."""
     count = sum(own.account.status == "closed" and own.verdict not in SETTLED for own in rows)
-    own = (
-        "1 account that is not compliant is" if count == 1 else f"{grouped(count)} accounts that are not compliant are"
-    )
+    several = f"{grouped(count)} accounts that are not compliant are"
+    own = several if count != 1 else "1 account that is not compliant is"
     return [f"{own} closed: no act is done on a closed account, so that stays"] if count else []
 
 
 def standing_cells(standing: Standing, names: Labels) -> list[str]:
     """The cells of an account in the table, which says the year and what is missing once."""
-    own, figures = standing.account, (
-        standing.surrendered,
-        standing.emissions,
-        standing.correction,
-        standing.determined,
-        standing.figure,
-    )
-    amounts = ["" if figure is None else grouped(figure) for figure in figures]
+    own, amounts = standing.account, ["" if own is None else grouped(own) for own in standing.figures]
     account, holder = names.account(own.number), names.holder(own.holder)
     return [account, own.kind, holder, own.status, *amounts, standing.verdict_in_words]
 
@@ -249,14 +225,8 @@ def run(words: argparse.Namespace) -> int:
     day, report = read_pair(words.day, words.report)
     year = last_year_over(day.head) if words.year is None else words.year
     rows = [*standings(day, report, year)]
+    showing.show_or_tell(words, COLUMNS, map(cells, rows), lambda: as_table(day, rows, year, labels.named_by(words)))
     if showing.is_for_programs(words):
-        write_answer(showing.for_programs(words, COLUMNS.names, [cells(own) for own in rows]), words.to)
         print("\n".join(counts(rows)), file=sys.stderr)
-    else:
-        write_answer(as_table(day, rows, year, labels.named_by(words)), words.to)
-    return FOUND if any(is_to_do(own) for own in rows) else 0
-
-
-def is_to_do(standing: Standing) -> bool:
-    """Whether somebody has to do something about an account: on a closed one no act is done."""
-    return standing.verdict not in SETTLED and standing.account.status != "closed"
+    # (on a closed account no act is done)
+    return FOUND if any(own.verdict not in SETTLED and own.account.status != "closed" for own in rows) else 0

@@ -15,7 +15,7 @@ from collections.abc import Iterator
 from pathlib import Path
 
 from registry_tools import steps
-from registry_tools.errors import FileFault
+from registry_tools.errors import FileFault, of_file
 from registry_tools.office import daybase, files, index, past
 from registry_tools.office.daybase import Row
 from registry_tools.office.past import Pair
@@ -37,7 +37,7 @@ def run(said: argparse.Namespace) -> int:
     try:
         count, added = of_pairs(said) if said.pairs else of_folder(said)
     except sqlite3.Error as error:
-        raise FileFault(said.file, 0, "", f"this database cannot be written: {error}", "") from None
+        raise of_file(said.file, f"this database cannot be written: {error}") from None
     print(f"{said.file}: days {count}, of which {added} are new")
     return 0
 
@@ -115,7 +115,7 @@ def fill(database: sqlite3.Connection, path: str, pairs: list[Pair], begin: int)
             daybase.add_day(database, past_day, sums_of_files(pairs[place]))
     faults = database.execute("PRAGMA foreign_key_check").fetchall()
     if faults:
-        raise FileFault(path, 0, "", f"a foreign key leads nowhere: {faults[0]}", "")
+        raise of_file(path, f"a foreign key leads nowhere: {faults[0]}")
     database.execute("COMMIT")
 
 
@@ -125,9 +125,8 @@ def compare(path: str, there: list[Row], days: list[Row], names: list[str]) -> N
         if place >= len(days):
             raise FileFault(path, 0, "days", f"a day {date}", "only the days that are named: take another FILE")
         if sums != [*days[place][1:]]:
-            expected = (
-                f"those of {names[place]} and its report: a day was undone or changed since, so take another FILE"
-            )
+            why = "a day was undone or changed since, so take another FILE"
+            expected = f"those of {names[place]} and its report: {why}"
             raise FileFault(path, 0, "SHA-256", f"others of {date}", expected)
 
 

@@ -71,7 +71,7 @@ def add_words(parser: argparse.ArgumentParser) -> None:
 
 def run(said: argparse.Namespace) -> int:
     """Runs the command, and answers the exit status."""
-    office = folder.opened(said.office, folder.to_errors)
+    office = folder.opened(said.office)
     last = composing.last_day(office)
     ahead = last.date + datetime.timedelta(office.settings.due.lead)
     until = past.date_or("--until", said.until, ahead)
@@ -90,13 +90,9 @@ def due_until(office: Office, until: datetime.date) -> list[Due]:
     """All that is due from the last settled day up to a date, by rising date."""
     day, report = composing.last_pair(office)
     names = labels.of_folder(office.path)
-    every = [
-        *deadlines(office.settings.due, day, report, names),
-        *of_rows(day, report, names),
-        *waiting(office, names),
-        *of_calendar(office),
-    ]
-    return sorted((own for own in every if own.date <= until), key=lambda own: (own.date, own.what, own.account or 0))
+    known = deadlines(office.settings.due, day, report, names), of_rows(day, report, names), waiting(office, names)
+    every = (own for found in (*known, of_calendar(office)) for own in found if own.date <= until)
+    return sorted(every, key=lambda own: (own.date, own.what, own.account or 0))
 
 
 def deadlines(dates: DueDates, day: DayText, report: Report, names: Labels) -> Iterator[Due]:

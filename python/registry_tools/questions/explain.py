@@ -67,11 +67,8 @@ def found_words(told: Told) -> str:
         return "the end of the file"
     if told.fault.place:
         return shown(told.row[told.fault.place - 1])
-    return (
-        f"{len(told.row)} fields: {shown(','.join(told.row))}"
-        if told.fault.cause == "fields"
-        else shown(",".join(told.row))
-    )
+    said = shown(",".join(told.row))
+    return f"{len(told.row)} fields: {said}" if told.fault.cause == "fields" else said
 
 
 def lines_of(told: Told, text: Mended) -> Iterator[str]:
@@ -105,11 +102,8 @@ def mend(text: Mended, to: str | None) -> int:
     lines, left = explained(text)
     write_answer(text.text(), to)
     changed = [f"mended: line {line}: {change}" for line, change in text.changes] or ["nothing was to mend"]
-    rest = (
-        lines[lines.index("With that mended, this is still wrong:") :]
-        if text.changes and left
-        else lines[len(text.changes) :]
-    )
+    begin = lines.index("With that mended, this is still wrong:") if text.changes and left else len(text.changes)
+    rest = lines[begin:]
     print("\n".join([*changed, *(rest if left else [])]), file=sys.stderr)
     return FOUND if left else 0
 

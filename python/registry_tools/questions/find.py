@@ -17,6 +17,7 @@ from registry_tools.office.asking import HOLDER_HAS, NAMING, logged
 from registry_tools.office.labels import USER, Label, Labels
 from registry_tools.second import faults
 from registry_tools.showing import Cell
+from registry_tools.texts.in_words import act_columns
 from registry_tools.texts.report import LogRow
 
 EXAMPLE = "./day find --account 100210 --refused --office out/office"
@@ -119,11 +120,7 @@ def cells_of(logged: LogRow, accounts: set[int]) -> Iterator[list[Cell]]:
     i = logged.instruction
     outcome = "done" if logged.is_done else logged.name
     start: list[Cell] = [str(logged.date), logged.record, str(i.proposed), i.proposer, i.approver, i.act]
-    if i.shares:
-        own = [(to, amount) for to, amount in i.shares if not accounts or accounts & {i.first, to}]
-        yield from ([*start, i.first, to, i.kind, amount, None, outcome, None] for to, amount in own)
-    elif i.act == "create":
-        yield [*start, None, i.first, i.kind, i.amounts[0], None, outcome, None]
-    else:
-        amount = i.tonnes if i.act == "emissions" else i.amounts[0] if i.amounts else None
-        yield [*start, i.first, i.other, i.kind, amount, i.year, outcome, i.status]
+    for own in act_columns(i):
+        if not i.shares or not accounts or accounts & {i.first, own.to}:
+            named = (own.first, own.to, own.kind, own.amount, own.year, outcome, own.status)
+            yield [*start, *(None if cell == "" else cell for cell in named)]

@@ -23,7 +23,7 @@ each once.
 """
 import argparse
 import datetime
-from typing import Any, Iterator, NamedTuple
+from typing import Any, Iterator
 
 from registry_tools import showing, tables
 from registry_tools.calendars.due_days import NOT_DUE, due_day_after, head_after
@@ -36,7 +36,8 @@ from registry_tools.showing import Cell
 from registry_tools.texts.accounts import Accounts
 from registry_tools.texts.checks import advice_for
 from registry_tools.texts.day_text import DayText, read_day
-from registry_tools.texts.pairs import must_follow
+from registry_tools.texts.in_words import act_columns
+from registry_tools.texts.follows import must_follow
 from registry_tools.texts.report import Report, read_report
 
 EXAMPLE = "./day log examples/week/monday-report.csv examples/week/tuesday-report.csv --refused > out/refused.csv"
@@ -58,37 +59,6 @@ def add_words(parser: argparse.ArgumentParser) -> None:
 
 # The cells of a row, in the order of the columns.
 LogCells = tuple[Any, ...]
-
-
-class ActColumns(NamedTuple):
-    """What the columns of an act say."""
-
-    first: int | str = ""
-    to: int | str = ""
-    kind: str = ""
-    amount: int | str = ""
-    year: int | str = ""
-    status: str = ""
-    record_named: int | str = ""
-
-
-def act_columns(i: rules.Instruction) -> list[ActColumns]:
-    """The columns of an instruction: once, or for each account that receives."""
-    if i.act == "create":
-        return [ActColumns("", i.first, rules.known(i.kind), i.amounts[0])]
-    if i.shares:
-        return [ActColumns(i.first, to, rules.known(i.kind), amount) for to, amount in i.shares]
-    more: dict[str, dict[str, Any]] = {
-        "surrender": {"kind": i.kind, "amount": sum(i.amounts)},
-        "delete": {"kind": i.kind, "amount": sum(i.amounts)},
-        "reverse": {"record_named": i.number},
-        "trust": {"to": i.other},
-        "untrust": {"to": i.other},
-        "status": {"status": i.status},
-        "emissions": {"amount": i.tonnes, "year": i.year},
-        "assess": {"year": i.year},
-    }
-    return [ActColumns(i.first, **more[i.act])]
 
 
 def entry_in_effect(accounts: Accounts, i: rules.Instruction) -> datetime.date | str:
@@ -125,9 +95,8 @@ def due_days_of(report: Report, days: list[DayText]) -> dict[int, datetime.date 
     log = progress.over(rules.settle(day.day()), "working out due days", len(day.instructions))
     due = {record: logged.due for record, logged in enumerate(log, day.head.next_record)}
     head = head_after(day, report)
-    return due | {
-        logged.record: due_day_after(head, logged.instruction) for logged in report.log if logged.name == NOT_DUE
-    }
+    waiting = (logged for logged in report.log if logged.name == NOT_DUE)
+    return due | {logged.record: due_day_after(head, logged.instruction) for logged in waiting}
 
 
 def report_date(report: Report) -> datetime.date | None:
@@ -138,19 +107,15 @@ def report_date(report: Report) -> datetime.date | None:
 def is_wanted(row: LogCells, words: argparse.Namespace) -> bool:
     """Whether a row is one that the words ask for."""
     of = dict(zip(COLUMNS.names, row))
-    return (not words.refused or of["outcome"] == "refused") and (
-        words.account is None or words.account in (of["from"], of["to"])
-    )
+    is_of_account = words.account is None or words.account in (of["from"], of["to"])
+    return is_of_account and (not words.refused or of["outcome"] == "refused")
 
 
 def look_for_account(reports: list[Report], number: int | None) -> None:
     """Ends the command if there is no such account, and no instruction names it: an empty table would say that nothing
     happened."""
-    is_named = (
-        number in (*rules.named(logged.instruction), logged.instruction.other)
-        for report in reports
-        for logged in report.log
-    )
+    instructions = (logged.instruction for report in reports for logged in report.log)
+    is_named = (number in (*rules.named(i), i.other) for i in instructions)
     if number is not None and not any(number in report.book for report in reports) and not any(is_named):
         raise WordsFault(f"--account {number}: no report has such an account, and no instruction names it")
 
@@ -159,10 +124,8 @@ def look_at_order(reports: list[Report]) -> None:
     """Ends the command if a report is named twice, or stands before an earlier one."""
     for place, (report, later) in enumerate(zip(reports, reports[1:])):
         # (two days without instructions may have the same report)
-        again = next(
-            (earlier for earlier in reports[: place + 1] if later.log and earlier.source.rows == later.source.rows),
-            None,
-        )
+        same = (own for own in reports[: place + 1] if later.log and own.source.rows == later.source.rows)
+        again = next(same, None)
         if again:
             raise WordsFault(f"{later.path} is {again.path} again: its rows would stand twice")
         first = later.next_record - len(later.log)

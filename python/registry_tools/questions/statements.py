@@ -24,7 +24,7 @@ from registry_tools.progress import progress
 from registry_tools.texts.accounts import Block
 from registry_tools.texts.day_text import DayText
 from registry_tools.texts.own import own_log, own_row, users_of
-from registry_tools.texts.pairs import read_pair
+from registry_tools.texts.follows import read_pair
 from registry_tools.texts.report import LogRow, Report
 
 EXAMPLE = (
@@ -66,10 +66,8 @@ def rows_by_account(day: DayText, report: Report, is_own: bool) -> dict[int, lis
     if not is_own:
         return {number: [logged.row for logged in rows] for number, rows in log_by_account(report).items()}
     users = {number: users_of(block) for number, block in day.book.items()}
-    return {
-        number: [own_row(logged, number, users[number]) for logged in rows]
-        for number, rows in own_log(day, report).items()
-    }
+    log = own_log(day, report)
+    return {number: [own_row(own, number, users[number]) for own in rows] for number, rows in log.items()}
 
 
 def statement_of(day: DayText, report: Report, number: int, rows: list[str], is_own: bool) -> str:

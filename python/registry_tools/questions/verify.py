@@ -12,9 +12,8 @@ from typing import Iterable, Iterator
 
 from registry_tools import showing, tables
 from registry_tools.engine import NotSettled, Settler, settler_of
-from registry_tools.errors import FOUND, FileFault, shown
-from registry_tools.options import add_pair
-from registry_tools.output import write_answer
+from registry_tools.errors import FOUND, FileFault, of_file, shown
+from registry_tools.options import add_engine, add_pair
 from registry_tools.progress import progress
 from registry_tools.second import rules
 from registry_tools.texts.day_text import DayText, read_day
@@ -28,26 +27,25 @@ COLUMNS = tables.COLUMNS["verify"]
 def add_words(parser: argparse.ArgumentParser) -> None:
     """Tells a parser the words of the command."""
     add_pair(parser, "what is said to be its report")
-    parser.add_argument(
-        "--program",
-        metavar="PROGRAM",
-        nargs="?",
-        const=True,
-        help="compare with a program, such as ./run, or the library too",
-    )
+    add_engine(parser, "--program", "compare with a program, such as ./run, or the library too")
     showing.add_words(parser)
 
 
 def expected_rows(day: DayText) -> Iterator[str]:
     """The rows of the report of a day, by the rules."""
-    settled = day.day()
-    log = [*progress.over(rules.settle(settled), f"settling {day.path}", len(day.instructions), step=100)]
+    settled, log = settled_again(day)
     progress.tell("working out the accounts")
     for number in day.book:
         # (an account that no instruction asked for is read now)
         settled.accounts[number]
     yield from rules.report(settled, log)
     yield "end"
+
+
+def settled_again(day: DayText) -> tuple[rules.Day, list[rules.Logged]]:
+    """A day as the rules leave it, and its log."""
+    settled = day.day()
+    return settled, [*progress.over(rules.settle(settled), f"settling {day.path}", len(day.instructions), step=100)]
 
 
 def first_difference(source: Rows, expected: Iterable[str]) -> FileFault | None:
@@ -63,8 +61,7 @@ def first_difference(source: Rows, expected: Iterable[str]) -> FileFault | None:
 def difference_of_touched(day: DayText, report: Report) -> FileFault | None:
     """The first row that differs from what the rules make of a day, in the log and in the accounts that the day
     changes. A report that follows from its day has all others as they were: so nothing else can differ."""
-    settled, source = day.day(), report.source
-    log = [*progress.over(rules.settle(settled), f"settling {day.path}", len(day.instructions), step=100)]
+    (settled, log), source = settled_again(day), report.source
     pairs = [*zip(source.rows, (logged.line for logged in log))]
     places = [*range(len(log))]
     for number in sorted({number for logged in log for number in logged.held}):
@@ -82,12 +79,9 @@ def other_bytes(settler: Settler, words: argparse.Namespace) -> FileFault | None
     try:
         settled = settler.settle(bytes_of(words.day))
     except NotSettled as fault:
-        return FileFault(words.day, 0, "", str(fault), "")
-    return (
-        None
-        if settled == bytes_of(words.report)
-        else FileFault(words.report, 0, "", f"{settler.name} writes other bytes", "")
-    )
+        return of_file(words.day, str(fault))
+    is_same = settled == bytes_of(words.report)
+    return None if is_same else of_file(words.report, f"{settler.name} writes other bytes")
 
 
 def run(words: argparse.Namespace) -> int:
@@ -97,10 +91,7 @@ def run(words: argparse.Namespace) -> int:
     if difference is None and words.program is not None:
         difference = other_bytes(settler_of(words.program, "--program"), words)
     counts = len(day.instructions), len(day.book)
-    if showing.is_for_programs(words):
-        row = [words.day, words.report, *counts, "no" if difference else "yes", *showing.fault_row(difference)]
-        write_answer(showing.for_programs(words, COLUMNS.names, [row]), words.to)
-    else:
-        so = f"{words.report} is what the rules make of {words.day}: instructions {counts[0]}, accounts {counts[1]}"
-        write_answer(f"{difference or so}\n", words.to)
+    row = [words.day, words.report, *counts, "no" if difference else "yes", *showing.fault_row(difference)]
+    so = f"{words.report} is what the rules make of {words.day}: instructions {counts[0]}, accounts {counts[1]}"
+    showing.show_or_tell(words, COLUMNS, [row], lambda: f"{difference or so}\n")
     return FOUND if difference else 0

@@ -14,13 +14,10 @@ BETWEEN = {
     "transfer": {(first, to) for first in HOLDERS for to in HOLDERS},
     "return": {(first, "allocation") for first in OPERATORS},
     "central": {
-        ("total", "allocation"),
-        ("allocation", "total"),
-        ("allocation", "operator"),
-        ("allocation", "aircraft"),
+        ("total", "allocation"), ("allocation", "total"), ("allocation", "operator"), ("allocation", "aircraft"),
     },
     "distribute": {("allocation", to) for to in OPERATORS},
-}
+}  # fmt: skip
 OF_KINDS = {"surrender": OPERATORS, "emissions": OPERATORS, "assess": OPERATORS, "create": {"total"}}
 NEEDS_STATUS = {"transfer": {"open"}, "delete": {"open"}, "assess": {"open", "blocked"}}
 NOT_CLOSED = {"open", "blocked", "excluded"}

@@ -50,9 +50,8 @@ class Account:
 
     def retired(self, what: str, kind: str) -> int:
         """What the account has surrendered, or deleted, of a kind."""
-        return sum(
-            row.amount for row in self.rows.values() if not row.is_reversed and (row.what, row.kind) == (what, kind)
-        )
+        rows = (row for row in self.rows.values() if (row.what, row.kind) == (what, kind))
+        return sum(row.amount for row in rows if not row.is_reversed)
 
     def surrendered_for(self, period: int) -> int:
         """How many allowances are surrendered for a period."""
@@ -187,17 +186,15 @@ def read_account(words: list[str]) -> Account:
     """The account of an `account` row, without its lists."""
     number, kind, holder, status, outside, waiver, correction, general, aviation = words
     held = {"general": int(general), "aviation": int(aviation)}
-    return Account(
-        int(number), kind, int(holder), status, outside == "yes", waiver == "yes", held, {1: int(correction)}
-    )
+    switches = outside == "yes", waiver == "yes"
+    return Account(int(number), kind, int(holder), status, *switches, held, {1: int(correction)})
 
 
 def read_row(account: Account, words: list[str]) -> None:
     """Adds a `retired` row to an account."""
     number, what, kind, amount, date, is_reversed, *period = words
-    of_period = int(period[0]) if period else 1
-    period_of_row = of_period if what == "surrender" else None
-    account.rows[int(number)] = Row(what, kind, int(amount), read_date(date), is_reversed == "yes", period_of_row)
+    of_period = (int(period[0]) if period else 1) if what == "surrender" else None
+    account.rows[int(number)] = Row(what, kind, int(amount), read_date(date), is_reversed == "yes", of_period)
 
 
 HEADING_ROWS: dict[str, Callable[[Day, list[str]], None]] = {

@@ -131,9 +131,8 @@ class Reading:
         if count >= MOST.get(tag, MOST_U64):
             raise Fault("limit", f"at most {MOST[tag]} {tag} rows{' of an account' if tag in BLOCK[1:] else ''}")
         if tag == "do" and self.next_record + count > MOST_RECORD:
-            raise Fault(
-                "limit", f"record numbers up to {MOST_RECORD}: this instruction would get {self.next_record + count}"
-            )
+            record = self.next_record + count
+            raise Fault("limit", f"record numbers up to {MOST_RECORD}: this instruction would get {record}")
         if tag == "retired":
             self.add_retired(*values[:6])
         if tag == "account":
@@ -151,9 +150,8 @@ class Reading:
         if last < first:
             raise Fault("order", f"a last year from {first} on", 3, "LAST")
         if self.last_years and first <= self.last_years[-1]:
-            raise Fault(
-                "order", f"a first year after {self.last_years[-1]}, the last one of the period before", 2, "FIRST"
-            )
+            before = f"{self.last_years[-1]}, the last one of the period before"
+            raise Fault("order", f"a first year after {before}", 2, "FIRST")
         if len(self.last_years) >= MOST_PERIODS:
             raise Fault("limit", f"at most {MOST_PERIODS} period rows")
         self.last_years.append(last)
@@ -164,12 +162,8 @@ class Reading:
         if number >= self.next_record:
             raise Fault("limit", f"a record number below the next one, {self.next_record}", 2, "NUMBER")
         if together > MOST_RETIRED:
-            raise Fault(
-                "limit",
-                f"at most {MOST_RETIRED} {kind} allowances in all {what} rows that are not reversed",
-                5,
-                "AMOUNT",
-            )
+            most = f"at most {MOST_RETIRED} {kind} allowances in all {what} rows that are not reversed"
+            raise Fault("limit", most, 5, "AMOUNT")
         self.retired[what, kind] = together
 
 

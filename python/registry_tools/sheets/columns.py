@@ -15,18 +15,11 @@ from registry_tools.texts.accounts import Block
 
 LATER_SHARES = range(2, tables.MOST_SHARES + 1)
 FIELD_NAMES = {word: [field.name.lower() for field in fields] for word, fields in faults.ACTS.items()}
-DISTRIBUTION = [
-    "from",
-    "kind",
-    "to",
-    "amount",
-    *(f"{name}{share}" for share in LATER_SHARES for name in ("to", "amount")),
-]
+SHARES = [f"{name}{share}" for share in LATER_SHARES for name in ("to", "amount")]
+DISTRIBUTION = ["from", "kind", "to", "amount", *SHARES]
 PROPOSAL = ["proposed", "proposer", "approver", "act"]
-INSTRUCTION_COLUMNS = [
-    *PROPOSAL,
-    *dict.fromkeys(name for names in [*FIELD_NAMES.values(), DISTRIBUTION] for name in names),
-]
+OF_ACTS = dict.fromkeys(name for names in [*FIELD_NAMES.values(), DISTRIBUTION] for name in names)
+INSTRUCTION_COLUMNS = [*PROPOSAL, *OF_ACTS]
 ACCOUNT_FIELDS = [field.name.lower() for field in faults.FIELDS["account"]]
 # The columns of the lists, by the tags of their rows.
 LISTS = {tag: f"{tag}s" if tag in ("correction", "user", "figure") else tag for tag in faults.BLOCK[1:]}
@@ -41,8 +34,7 @@ def columns_of_act(act: str) -> list[str]:
 
 def cells_of_instruction(i: Instruction) -> list[str]:
     """The cells of an instruction, in the order of the columns."""
-    proposal, own = i.fields[:4], i.fields[4:]
-    said = dict(zip([*PROPOSAL, *columns_of_act(i.act)], [*proposal, *own]))
+    said = dict(zip([*PROPOSAL, *columns_of_act(i.act)], i.fields))
     return [said.get(column, "") for column in INSTRUCTION_COLUMNS]
 
 

@@ -20,7 +20,7 @@ from registry_tools.questions import compliance, log
 from registry_tools.sheets import columns, writing
 from registry_tools.sheets.writing import Written
 from registry_tools.texts.day_text import DayText
-from registry_tools.texts.pairs import read_pair
+from registry_tools.texts.follows import read_pair
 from registry_tools.texts.report import Report
 
 EXAMPLE = "./day export examples/week/monday.csv examples/week/monday-report.csv --accounts --xlsx out/accounts.xlsx"
@@ -42,11 +42,9 @@ def add_words(parser: argparse.ArgumentParser) -> None:
 def table_of(said: argparse.Namespace, day: DayText, report: Report) -> tuple[Sequence[str], Iterator[Sequence[str]]]:
     """The columns and the rows of the table that the words ask for."""
     if said.what == "instructions":
-        return columns.INSTRUCTION_COLUMNS, (
-            columns.cells_of_instruction(instruction) for instruction in day.instructions
-        )
+        return columns.INSTRUCTION_COLUMNS, map(columns.cells_of_instruction, day.instructions)
     if said.what == "accounts":
-        return columns.ACCOUNT_COLUMNS, (columns.cells_of_account(block) for block in report.book.values())
+        return columns.ACCOUNT_COLUMNS, map(columns.cells_of_account, report.book.values())
     if said.what == "figures":
         return FIGURE_COLUMNS, figures_of(report)
     return written_table(log if said.what == "log" else compliance, said)

@@ -27,7 +27,6 @@ import sys
 from dataclasses import dataclass
 from typing import Callable, Iterator
 
-from registry_tools import tables
 from registry_tools.errors import FILE, FileFault, shown
 from registry_tools.options import add_to
 from registry_tools.output import write_answer
@@ -37,6 +36,7 @@ from registry_tools.sheets.mapping import Mapping
 from registry_tools.sheets.sheet import Sheet
 from registry_tools.sheets.table import Table
 from registry_tools.texts import in_words
+from registry_tools.texts.day_text import reading_of_any_day
 
 EXAMPLE = (
     "./day export examples/week/monday.csv examples/week/monday-report.csv --instructions --xlsx out/new.xlsx\n"
@@ -157,26 +157,19 @@ def with_dates(row: list[str], read_date: Callable[[str], str]) -> list[str]:
 def wrong_rows(table: Table, number: int, said: dict[str, str], rows: list[list[str]]) -> Iterator[FileFault]:
     """What is wrong with an account: each field of its rows, and else the first thing of each row that does not fit the
     others."""
-    reading = faults.Reading(
-        last="work", version=2, next_record=tables.MOST_RECORD + 1, last_years=[*range(tables.MOST_PERIODS)]
-    )
+    reading = reading_of_any_day()
     for row in rows:
         wrong = [*wrong_fields(reading, row)]
         if wrong:
             # (the rows behind it are looked at as if it stood there without a fault)
             reading.last = row[0]
         else:
-            wrong += misplaced(reading, row)
+            # (a row whose fields have no fault may not fit those before it)
+            try:
+                reading.add(row)
+            except faults.Fault as fault:
+                wrong = [fault]
         yield from (fault_of(table, number, said, row, fault) for fault in wrong)
-
-
-def misplaced(reading: faults.Reading, row: list[str]) -> list[faults.Fault]:
-    """Why a row whose fields have no fault does not fit those before it, if it does not."""
-    try:
-        reading.add(row)
-        return []
-    except faults.Fault as fault:
-        return [fault]
 
 
 def wrong_fields(reading: faults.Reading, row: list[str]) -> Iterator[faults.Fault]:

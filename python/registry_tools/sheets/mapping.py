@@ -19,7 +19,7 @@ import re
 from collections.abc import Callable, Iterable
 from dataclasses import dataclass, field
 
-from registry_tools.errors import FileFault, shown
+from registry_tools.errors import FileFault, must_be_known, of_file, shown
 from registry_tools.sheets.sheet import Stored
 from registry_tools.texts.in_words import as_looked_up
 from registry_tools.texts.rows import packed_bytes_of
@@ -64,7 +64,7 @@ def read(path: str, known: Iterable[str]) -> Mapping:
     except UnicodeDecodeError:
         raise FileFault(path, 0, "", "a byte that is nothing in UTF-8", "a mapping that is saved in UTF-8") from None
     except configparser.Error as error:
-        raise FileFault(path, 0, "", f"this is no mapping: {error}".replace("\n", " "), "") from None
+        raise of_file(path, f"this is no mapping: {error}".replace("\n", " ")) from None
     columns = [*known]
     sections = {name: dict(parser[name]) for name in parser.sections()}
     for name, own in sections.items():
@@ -77,19 +77,16 @@ def read(path: str, known: Iterable[str]) -> Mapping:
 def look_at(path: str, name: str, own: dict[str, str], known: list[str]) -> None:
     """Ends the command if a section says something that no table has."""
     if name == FORM:
-        wrong = next((key for key in own if key not in (DATES, AMOUNTS)), None)
-        if wrong is not None:
-            raise FileFault(path, 0, f"[{name}]", shown(wrong), f"{DATES} or {AMOUNTS}")
+        must_be_known(path, f"[{name}]", own, (DATES, AMOUNTS), f"{DATES} or {AMOUNTS}")
         if AMOUNTS in own:
             amount_reader(own[AMOUNTS], path)
         return
     if name not in (COLUMNS, ALWAYS, *known):
         expected = f"[{COLUMNS}], [{ALWAYS}], [{FORM}], or the name of a column: {', '.join(known)}"
         raise FileFault(path, 0, "section", shown(name), expected)
-    named = own.values() if name == COLUMNS else own if name == ALWAYS else ()
-    wrong = next((column for column in named if column not in known and not (column == "" and name == COLUMNS)), None)
-    if wrong is not None:
-        raise FileFault(path, 0, f"[{name}]", shown(wrong), f"one of {', '.join(known)}")
+    named = [*own.values()] if name == COLUMNS else own if name == ALWAYS else ()
+    allowed = [*known, *([""] if name == COLUMNS else [])]
+    must_be_known(path, f"[{name}]", named, allowed, f"one of {', '.join(known)}")
 
 
 def amount_reader(example: str | None, path: str) -> Callable[[str], str]:

@@ -24,10 +24,6 @@ class Sheet:
         """What is wrong with a cell. Rows and columns count from 0."""
         return self.fault_at(f"cell {name_of_cell(row, column)}", field, found, expected)
 
-    def row_fault(self, row: int, field: str, found: str, expected: str) -> FileFault:
-        """What is wrong with a row, which counts from 0."""
-        return self.fault_at(f"row {row + 1}", field, found, expected)
-
     def fault_at(self, place: str, field: str, found: str, expected: str) -> FileFault:
         """The fault of a place in the sheet."""
         sheet = f"sheet {self.name}, " if self.name else ""

@@ -12,7 +12,7 @@ import zipfile
 import zlib
 from xml.etree import ElementTree
 
-from registry_tools.errors import FileFault, shown
+from registry_tools.errors import FileFault, of_file, shown
 from registry_tools.sheets import open_document, workbook
 from registry_tools.sheets.sheet import Sheet
 from registry_tools.texts.rows import packed_bytes_of
@@ -73,7 +73,7 @@ def read_csv(path: str, content: bytes) -> Sheet:
     try:
         return Sheet(path, "", [*csv.reader(io.StringIO(text, newline=""), delimiter=separator, strict=True)])
     except csv.Error as error:
-        raise FileFault(path, 0, "", f"this is no table: {error}", "") from None
+        raise of_file(path, f"this is no table: {error}") from None
 
 
 def read_workbook(path: str, content: bytes) -> Sheet:
@@ -81,9 +81,8 @@ def read_workbook(path: str, content: bytes) -> Sheet:
     kind = content[:MOST_MIMETYPE].partition(OPEN_DOCUMENT)[2]
     if kind and not kind.startswith(SPREADSHEET):
         raise FileFault(path, 0, "", "an OpenDocument file that is no table", SAVE_AS)
+    read = open_document.open_document_sheet if kind else workbook.workbook_sheet
     try:
-        if kind:
-            return open_document.open_document_sheet(path, content)
-        return workbook.workbook_sheet(path, content)
+        return read(path, content)
     except DAMAGED as error:
-        raise FileFault(path, 0, "", f"this is no workbook that can be read: {error}", "") from None
+        raise of_file(path, f"this is no workbook that can be read: {error}") from None

@@ -58,16 +58,12 @@ class Table:
         mapped = self.mapping.column(heading)
         return heading.strip().lower() if mapped is None else mapped
 
-    def is_passed_over(self, place: int) -> bool:
-        """Whether a mapping passes a column over."""
-        return self.mapping.column(self.headings[place]) == PASSED_OVER
-
     def wrong_heading(self) -> Iterator[FileFault]:
         """What is wrong with the names of the columns, and with cells that stand under none."""
         if not self.columns:
             yield self.sheet.fault(0, 0, "heading", "nothing", f"the names of columns: {', '.join(self.known)}")
         for place, name in enumerate(self.columns):
-            if self.is_passed_over(place):
+            if self.mapping.column(self.headings[place]) == PASSED_OVER:
                 continue
             if name not in self.known:
                 found, expected = shown(self.headings[place]), f"one of {', '.join(self.known)}"
@@ -107,5 +103,5 @@ class Table:
             where = f"[{mappings.ALWAYS}] {name}"
             return FileFault(self.mapping.path, 0, where, found, expected)
         if name not in self.columns:
-            return self.sheet.row_fault(number, name, "no such column", expected)
+            return self.sheet.fault_at(f"row {number + 1}", name, "no such column", expected)
         return self.sheet.fault(number, self.columns.index(name), name, found, expected)

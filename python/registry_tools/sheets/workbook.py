@@ -60,10 +60,8 @@ class Workbook:
         sheet = self.book.find(f"{MAIN}sheets/{MAIN}sheet")
         if sheet is None:
             raise ValueError("no sheet")
-        links = {
-            own.get("Id"): own.get("Target", "")
-            for own in self.part("xl/_rels/workbook.xml.rels").iter(f"{PACKAGE}Relationship")
-        }
+        relations = self.part("xl/_rels/workbook.xml.rels").iter(f"{PACKAGE}Relationship")
+        links = {own.get("Id"): own.get("Target", "") for own in relations}
         target = links[sheet.get(RELATION)]
         name = target.lstrip("/") if target.startswith("/") else f"xl/{target}"
         rows: list[list[str]] = []

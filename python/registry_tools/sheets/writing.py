@@ -93,9 +93,8 @@ def cell_text(path: str, row: int, column: int, cell: str) -> str:
         return ""
     name = name_of_cell(row, column)
     if len(cell) > MOST_LETTERS:
-        raise FileFault(
-            path, 0, f"cell {name}", f"{len(cell)} letters", f"at most {MOST_LETTERS} in a cell: export it as csv"
-        )
+        most = f"at most {MOST_LETTERS} in a cell: export it as csv"
+        raise FileFault(path, 0, f"cell {name}", f"{len(cell)} letters", most)
     if DIGITS.fullmatch(cell):
         return f'<c r="{name}"><v>{cell}</v></c>'
     return f'<c r="{name}" t="inlineStr"><is><t xml:space="preserve">{escape(cell)}</t></is></c>'

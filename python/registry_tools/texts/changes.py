@@ -1,7 +1,6 @@
 """What is changed between two texts, row by row: in what two accounts differ, what people changed by hand between a
 settled day and the next one, and what of that they may change, by the table of it. All that compare accounts, or tell
 of changes by hand, ask here."""
-import functools
 from dataclasses import dataclass
 from typing import Iterator, NamedTuple, Sequence
 
@@ -158,19 +157,17 @@ class Rule:
         return f"{acts} that, and nobody by hand" + (f", who may only {' or '.join(may)} it" if may else "")
 
 
-@functools.lru_cache(maxsize=None)
-def rules_by_hand() -> dict[tuple[str, str], Rule]:
-    """The rule of each field of the `account` row, and of each list, whose field is empty."""
-    return {
-        (own.tag, field): Rule(frozenset(own.by_hand), tuple(own.acts.split()))
-        for own in tables.BY_HAND
-        for field in own.fields.split() or [""]
-    }
+# The rule of each field of the `account` row, and of each list, whose field is empty.
+RULES_BY_HAND = {
+    (own.tag, field): Rule(frozenset(own.by_hand), tuple(own.acts.split()))
+    for own in tables.BY_HAND
+    for field in own.fields.split() or [""]
+}
 
 
 def why_not(difference: Difference) -> str:
     """Why a difference may not be made by hand; nothing if it may."""
-    return rules_by_hand()[difference.tag, difference.field].why_not(difference)
+    return RULES_BY_HAND[difference.tag, difference.field].why_not(difference)
 
 
 def as_opened(rows: list[str]) -> list[str]:
@@ -179,26 +176,12 @@ def as_opened(rows: list[str]) -> list[str]:
     return [",".join([*fields[:4], "open", *fields[5:8], "0", "0"])]
 
 
-def differences_by_hand(old: Block | None, new: Block) -> list[Difference]:
-    """In what an account of the next day's text differs from the one before, or from one that is just opened."""
-    return [*differences_of(old.rows if old else as_opened(new.rows), new.rows)]
-
-
 def refusals(old: Block | None, new: Block) -> Iterator[FileFault]:
     """What of an account may not be changed by hand, each as a fault of its text."""
-    for difference in differences_by_hand(old, new):
+    for difference in differences_of(old.rows if old else as_opened(new.rows), new.rows):
         why = why_not(difference)
         if why:
-            path, line = new.source.path, new.line_of(difference.place_after or 0)
-            place = (
-                f", as {old.source.path}:{old.line_of(difference.place_before or 0)}"
-                if old
-                else ", as in each new account"
-            )
-            yield FileFault(
-                path,
-                line,
-                f"{difference.name} of account {new.number}",
-                difference.found,
-                f"{difference.expected}{place}: {why}",
-            )
+            line, before = new.line_of(difference.place_after or 0), difference.place_before or 0
+            where = f"as {old.source.path}:{old.line_of(before)}" if old else "as in each new account"
+            name, expected = f"{difference.name} of account {new.number}", f"{difference.expected}, {where}: {why}"
+            yield FileFault(new.source.path, line, name, difference.found, expected)

@@ -4,6 +4,7 @@ import functools
 from dataclasses import dataclass
 from pathlib import Path
 
+from registry_tools import tables
 from registry_tools.errors import RowFault, shown
 from registry_tools.second import faults, rules
 from registry_tools.texts.accounts import Accounts, Block, Known, Reader, WithBook
@@ -22,6 +23,7 @@ class DayText(WithBook):
     # The places of the first `account` row, and of the first `do` row.
     first_account: int
     first_do: int
+    others: list[int] | None = None
 
     @property
     def heading(self) -> list[str]:
@@ -75,26 +77,20 @@ def read_day(path: str | Path, known: Known | None = None) -> DayText:
 
 def day_of(source: Rows, known: Known | None = None) -> DayText:
     """The day text of these rows. Raises RowFault or FileFault at the first fault."""
-    reader = Reader(source, faults.Reading())
-    index = 0
-    while (
-        index < len(source) and not source.rows[index].startswith(("account,", "do,")) and source.rows[index] != "end"
-    ):
+    reader, rows = Reader(source, faults.Reading()), source.rows
+    starts = (index for index, row in enumerate(rows) if row == "end" or row.startswith(("account,", "do,")))
+    first_account = next(starts, len(rows))
+    for index in range(first_account):
         reader.add(index)
-        index += 1
-    first_account = index
-    book, index = reader.blocks(index, known)
-    first_do = index
+    book, first_do, others = reader.blocks(first_account, known)
     for index in range(first_do, len(source)):
         reader.add(index)
     if reader.reading.last != "end":
-        lacking = f"a row {' or '.join(reader.reading.may_follow())}"
-        raise RowFault(
-            len(source) + 1, "end", source.path, source.line(len(source)), "end", "the end of the file", lacking
-        )
-    head = rules.day_of_fields(row.split(",") for row in source.rows[:first_account])
-    instructions = [rules.read_instruction(row.split(",")[1:]) for row in source.rows[first_do:-1]]
-    return DayText(source, reader.reading.version, head, book, instructions, first_account, first_do)
+        lacking, behind = f"a row {' or '.join(reader.reading.may_follow())}", len(source)
+        raise RowFault(behind + 1, "end", source.path, source.line(behind), "end", "the end of the file", lacking)
+    head = rules.day_of_fields(row.split(",") for row in rows[:first_account])
+    instructions = [rules.read_instruction(row.split(",")[1:]) for row in rows[first_do:-1]]
+    return DayText(source, reader.reading.version, head, book, instructions, first_account, first_do, others)
 
 
 # Parts of day texts.
@@ -115,10 +111,16 @@ def read_rows_of(tag: str, path: str | Path | Rows, reading: faults.Reading) -> 
 def read_blocks(path: str | Path | Rows, reading: faults.Reading) -> dict[int, Block]:
     """The accounts of a file that has only their blocks, and perhaps `end`, by number."""
     source = part_of_day(path)
-    book, behind = Reader(source, reading).blocks(0)
+    book, behind, _ = Reader(source, reading).blocks(0)
     if behind < len(source):
         raise source.fault(behind, "tag", shown(source.fields(behind)[0]), "account rows, and the rows of their lists")
     return book
+
+
+def reading_of_any_day() -> faults.Reading:
+    """What stands before accounts that are of no day yet: each record number and period is allowed."""
+    years = [*range(tables.MOST_PERIODS)]
+    return faults.Reading(last="work", version=2, next_record=tables.MOST_RECORD + 1, last_years=years)
 
 
 def part_of_day(path: str | Path | Rows) -> Rows:

@@ -54,18 +54,16 @@ class Explainer(faults.Reading):
             self.add(row)
             return []
         except faults.Fault as fault:
-            if is_low_next(fault, row):
+            # (a surrender or deletion is told that has no number below NEXT: then NEXT is too low)
+            if row[0] == "retired" and fault.name == "NUMBER" and "next one" in fault.expected:
                 fault.highest = self.highest
                 # (all later rows above NEXT are the same mistake)
                 self.next_record = UNKNOWN
-            fault.earlier = self.earlier_row(fault, row)
+            # (the row before it in its list, if it does not rise above that one)
+            fault.earlier = self.rows_before.get(row[0], "") if fault.cause == "order" else ""
             found = [fault, *self.more_faults(fault, row)]
             self.go_on(fault, row)
             return found
-
-    def earlier_row(self, fault: faults.Fault, row: list[str]) -> str:
-        """The row before it in its list, if it does not rise above that one."""
-        return self.rows_before.get(row[0], "") if fault.cause == "order" else ""
 
     def more_faults(self, first: faults.Fault, row: list[str]) -> Iterator[faults.Fault]:
         """The faults of the fields behind the first faulty one."""
@@ -123,11 +121,6 @@ class Explainer(faults.Reading):
             self.last_years = [tables.LAST_YEAR] * tables.MOST_PERIODS
 
 
-def is_low_next(fault: faults.Fault, row: list[str]) -> bool:
-    """Whether a surrender or deletion is told that has no number below NEXT: then NEXT is too low."""
-    return row[0] == "retired" and fault.name == "NUMBER" and "next one" in fault.expected
-
-
 def highest_record(source: Rows) -> int:
     """The highest record number of the `retired` rows that can be read."""
     words = (row.split(",", 2)[1] for row in source.rows if row.startswith("retired,"))
@@ -136,10 +129,9 @@ def highest_record(source: Rows) -> int:
 
 # Files of ./day next: what stood before their rows, and which rows they have.
 PARTS = {
-    "do": ("--do", "do", ("do",)),
-    "work": ("--work", "lags", ("work",)),
+    "do": ("--do", "do", ("do",)), "work": ("--work", "lags", ("work",)),
     "account": ("--changes", "work", faults.BLOCK),
-}
+}  # fmt: skip
 
 
 @dataclass
@@ -199,7 +191,9 @@ def all_faults(source: Rows) -> Iterator[Told]:
                 continue
         for fault in explainer.explain(row):
             yield Told(index + 1, source.line(index), row, fault, version)
-            if fault.cause == "end" or is_other_text(index, fault, row):
+            # (the first row may tell that the file is a text of another kind)
+            is_other_text = index == 0 and fault.cause == "tag" and row[0] in OTHER_TEXTS
+            if fault.cause == "end" or is_other_text:
                 return
         explainer.rows_before[row[0]] = source.rows[index]
         index += 1
@@ -222,8 +216,3 @@ def blocks_of(source: Rows, first: int, reader: Reader) -> Blocks:
     # (an `account` row behind the first `do` row ends with itself)
     later = (index for index in range(end, len(source)) if source.rows[index].startswith("account,"))
     return Blocks(ends | {index: index + 1 for index in later}, reader.pattern())
-
-
-def is_other_text(index: int, fault: faults.Fault, row: list[str]) -> bool:
-    """Whether a fault tells that the file is a text of another kind."""
-    return index == 0 and fault.cause == "tag" and row[0] in OTHER_TEXTS

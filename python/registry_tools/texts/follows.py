@@ -1,4 +1,4 @@
-"""Whether a report follows from its day: each command that reads a pair asks here, by `pairs`.
+"""Whether a report follows from its day: each command that reads a pair asks here.
 
   the log        has the instructions one by one, under the record numbers from NEXT on, on the day
   a done row     is one that no check refuses on the accounts as they then are. What it says that they hold behind it,
@@ -13,14 +13,14 @@ Whether a refused instruction had to be refused, and by which check, is not look
 import bisect
 from typing import Iterator
 
-from registry_tools.errors import FileFault, shown
+from registry_tools.errors import FileFault, raise_first, shown
 from registry_tools.progress import progress
 from registry_tools.second import rules
-from registry_tools.texts.accounts import WithBook
+from registry_tools.texts.accounts import Known, WithBook
 from registry_tools.texts.books import Sums, sums_of
 from registry_tools.texts.changes import differences_of
-from registry_tools.texts.day_text import DayText
-from registry_tools.texts.report import LogRow, Report
+from registry_tools.texts.day_text import DayText, read_day
+from registry_tools.texts.report import LogRow, Report, read_report
 from registry_tools.texts.runs import unlike
 
 
@@ -30,9 +30,8 @@ def differences(day: DayText, report: Report, sums: dict[str, Sums] | None = Non
     yield from differences_of_log(day, report)
     expected = day.head.next_record + len(day.instructions)
     if report.next_record != expected:
-        yield FileFault(
-            report.path, report.book_line, "NEXT", report.next_record, f"{expected}, the record number after the day"
-        )
+        said = f"{expected}, the record number after the day"
+        yield FileFault(report.path, report.book_line, "NEXT", report.next_record, said)
     replay = Replay(day, report)
     yield from replay.differences_of_log()
     yield from replay.differences_of_accounts()
@@ -60,9 +59,8 @@ def differences_of_log(day: DayText, report: Report) -> Iterator[FileFault]:
         lacking = f"a log row for {day.path}:{day.line_of_instruction(len(report.log))}"
         yield FileFault(report.path, report.book_line, "log row", f"{len(report.log)} log rows", lacking)
     for logged in report.log[len(day.instructions) :]:
-        yield FileFault(
-            report.path, logged.line, "log row", shown(logged.row), f"no more rows than {day.path} has instructions"
-        )
+        no_more = f"no more rows than {day.path} has instructions"
+        yield FileFault(report.path, logged.line, "log row", shown(logged.row), no_more)
 
 
 # What the done rows make of the accounts.
@@ -92,13 +90,8 @@ class Replay:
                 continue
             check = refusal_of(self.now, i)
             if check:
-                yield FileFault(
-                    self.report.path,
-                    logged.line,
-                    "OUTCOME",
-                    "'done'",
-                    f"'refused', as {check}, on the accounts as they then are",
-                )
+                said = f"'refused', as {check}, on the accounts as they then are"
+                yield FileFault(self.report.path, logged.line, "OUTCOME", "'done'", said)
                 continue
             figure = rules.carry_out(self.now, i, logged.record)
             if logged.figure != figure:
@@ -113,15 +106,15 @@ class Replay:
             self.last[number] = logged
             for kind, amount in held.items():
                 if amount != account.held[kind]:
-                    expected = f"{account.held[kind]}, which comes of the day before this row and of its act"
-                    yield FileFault(
-                        self.report.path, logged.line, f"{kind.upper()} of account {number}", amount, expected
-                    )
+                    field = f"{kind.upper()} of account {number}"
+                    said = f"{account.held[kind]}, which comes of the day before this row and of its act"
+                    yield FileFault(self.report.path, logged.line, field, amount, said)
 
     def differences_of_accounts(self) -> Iterator[FileFault]:
         """Where the accounts behind the log are not those that it leaves."""
         day, report = self.day, self.report
-        for number in sorted({*unlike(day.book, report.book), *self.last, *(day.book.keys() - report.book.keys())}):
+        lost, touched = day.book.keys() - report.book.keys(), self.last
+        for number in sorted({*unlike(day.book, report.book, report.others), *touched, *lost}):
             block = day.book.get(number)
             if block is None:
                 continue
@@ -137,9 +130,8 @@ class Replay:
                 rows, why = block.rows, f"as {day.path}:{block.line}: no done row touches account {number}"
             else:
                 rows = [*rules.account_rows(self.now.accounts[number])]
-                why = (
-                    f"as {day.path}:{block.line} and the acts up to {report.path}:{logged.line} leave account {number}"
-                )
+                acts = f"the acts up to {report.path}:{logged.line} leave account {number}"
+                why = f"as {day.path}:{block.line} and {acts}"
             for difference in differences_of(rows, written.rows):
                 line = written.line_of(difference.place_after or 0)
                 yield FileFault(report.path, line, difference.name, difference.found, f"{difference.expected}, {why}")
@@ -156,9 +148,8 @@ def differences_of_totals(report: Report, sums: dict[str, Sums]) -> Iterator[Fil
     for kind in rules.KINDS:
         for name, there, expected in zip(("HELD", "SURRENDERED", "DELETED"), report.totals[kind], sums[kind]):
             if there != expected:
-                yield FileFault(
-                    report.path, report.totals_line(kind), name, there, f"{expected}, the sum over all accounts"
-                )
+                line, said = report.totals_line(kind), f"{expected}, the sum over all accounts"
+                yield FileFault(report.path, line, name, there, said)
 
 
 def line_behind(text: WithBook, number: int) -> int:
@@ -168,3 +159,20 @@ def line_behind(text: WithBook, number: int) -> int:
         return text.book[text.numbers[place]].line
     last = text.book[text.numbers[-1]] if text.numbers else None
     return text.source.line(last.index + last.count if last else text.first_account)
+
+
+# Reading a pair.
+
+
+def read_pair(day_path: str, report_path: str, known: Known | None = None) -> tuple[DayText, Report]:
+    """A day text and its report. Ends the command if the report does not follow from the day. That is quicker with the
+    `known` book of the report before it."""
+    day = read_day(day_path, known)
+    report = read_report(report_path, day)
+    must_follow(day, report)
+    return day, report
+
+
+def must_follow(day: DayText, report: Report, sums: dict[str, Sums] | None = None) -> None:
+    """Ends the command at the first difference. `sums` are those over the accounts of the report, if they are known."""
+    raise_first(differences(day, report, sums))

@@ -23,6 +23,10 @@ OTHER_TEXTS = {
 YES = dict.fromkeys(("true", "y", "1", "ja", "oui"), "yes") | dict.fromkeys(("false", "n", "0", "nein", "non"), "no")
 OTHER_WORDS = {"delete": "deletion", "deletion": "delete", "surrendered": "surrender", "deleted": "deletion"}
 SEPARATED = re.compile(r"-?[0-9]{1,3}([.,'_\u00a0\u202f\u2009 ][0-9]{3})+")
+# What several guesses say.
+OTHER_SEPARATOR = "semicolons or tabs stand between the fields of this row: it needs commas"
+NO_APPROVER = "APPROVER was left out: if there is none, leave its field empty, and its two commas stand"
+UNSEEN = "blanks or characters that nobody sees stand in this field"
 
 
 def guess(fault: Fault, row: list[str], version: int) -> str:
@@ -30,13 +34,8 @@ def guess(fault: Fault, row: list[str], version: int) -> str:
     if any("\n" in word for word in row):
         return "a double quote is not closed: the field goes on over the lines behind it"
     by_cause = {
-        "tag": of_tag,
-        "fields": of_fields,
-        "number": of_number,
-        "date": of_date,
-        "word": of_word,
-        "order": of_order,
-    }
+        "tag": of_tag, "fields": of_fields, "number": of_number, "date": of_date, "word": of_word, "order": of_order,
+    }  # fmt: skip
     if fault.cause in by_cause:
         return by_cause[fault.cause](fault, row, version)
     if fault.cause == "version":
@@ -61,7 +60,7 @@ def of_tag(fault: Fault, row: list[str], version: int) -> str:
     """A guess at a row whose tag is not the expected one."""
     tag = row[0]
     if ";" in tag or "\t" in tag:
-        return "semicolons or tabs stand between the fields of this row: it needs commas"
+        return OTHER_SEPARATOR
     if tag in ONLY_VERSION_2 and version == 1:
         return f"a row {tag} is only in version 2: write format,2 and a row current, or leave it out"
     if tag == "period" and version == 1 and fault.expected.endswith("lags"):
@@ -97,15 +96,13 @@ def of_fields(_fault: Fault, row: list[str], version: int) -> str:
     if row[0] == "retired" and len(row) == 8 and version == 1:
         return "a period in a retired row is only in version 2"
     if row[0] == "do" and len(row) > 3 and row[3] in faults.ACT_WORDS:
-        return "APPROVER was left out: if there is none, leave its field empty, and its two commas stand"
+        return NO_APPROVER
     if len(row) == 1 and (";" in row[0] or "\t" in row[0]):
-        return "semicolons or tabs stand between the fields of this row: it needs commas"
+        return OTHER_SEPARATOR
     if not row[-1]:
         return "empty fields stand at the end of the row, as a spreadsheet writes them"
-    if any(
-        re.fullmatch("-?[1-9][0-9]{0,2}", before) and re.fullmatch("[0-9]{3}", after)
-        for before, after in zip(row[1:], row[2:])
-    ):
+    pairs = zip(row[1:], row[2:])
+    if any(re.fullmatch("-?[1-9][0-9]{0,2}", one) and re.fullmatch("[0-9]{3}", other) for one, other in pairs):
         return "a comma in a number, as it groups digits? Write the digits alone"
     return ""
 
@@ -113,11 +110,11 @@ def of_fields(_fault: Fault, row: list[str], version: int) -> str:
 def of_number(fault: Fault, row: list[str], _version: int) -> str:
     """A guess at a field that is no number."""
     word = row[fault.place - 1]
-    for pattern, said in NUMBERS:
-        if re.fullmatch(pattern, word):
-            return said
+    said = by_pattern(NUMBERS, word)
+    if said:
+        return said
     if word != stripped(word):
-        return "blanks or characters that nobody sees stand in this field"
+        return UNSEEN
     if word and re.fullmatch("[0-9OoIl]+", word):
         return "a letter in place of a digit: O for 0, or l for 1?"
     return ""
@@ -157,12 +154,12 @@ def of_date(fault: Fault, row: list[str], _version: int) -> str:
     word = row[fault.place - 1]
     if re.fullmatch("[0-9]{4}-[0-9]{2}-[0-9]{2}", word):
         return of_missing_day(*map(int, word.split("-")))
-    for pattern, said in DATES:
-        if re.fullmatch(pattern, word):
-            return said
-    if word != stripped(word):
-        return "blanks or characters that nobody sees stand in this field"
-    return ""
+    return by_pattern(DATES, word) or (UNSEEN if word != stripped(word) else "")
+
+
+def by_pattern(guesses: list[tuple[str, str]], word: str) -> str:
+    """The guess of the first pattern that a word has; nothing if it has none."""
+    return next((said for pattern, said in guesses if re.fullmatch(pattern, word)), "")
 
 
 def of_missing_day(year: int, month: int, day: int) -> str:
@@ -177,7 +174,7 @@ def of_word(fault: Fault, row: list[str], _version: int) -> str:
     """A guess at a field that is none of its words."""
     word = row[fault.place - 1]
     if fault.name == "ACT" and len(row) > 3 and row[3] in faults.ACT_WORDS:
-        return "APPROVER was left out: if there is none, leave its field empty, and its two commas stand"
+        return NO_APPROVER
     words = fault.expected.removeprefix("one of the words ").split(", ")
     for meant in (YES.get(word.lower()), OTHER_WORDS.get(word.lower())):
         if meant in words:
@@ -185,7 +182,7 @@ def of_word(fault: Fault, row: list[str], _version: int) -> str:
     if not word:
         return "a word is missing"
     if word != stripped(word):
-        return "blanks or characters that nobody sees stand in this field"
+        return UNSEEN
     meant = near(word, words)
     if meant:
         return f"write {meant}" + (", in small letters" if word.lower() == meant else "?")

@@ -28,9 +28,8 @@ def heading_differences(before: DayText, day: DayText) -> Iterator[FileFault]:
         for row in (added for added in new if added not in old):
             yield FileFault(day.path, day.line_of(row), tag, shown(row), f"{NO_ROW}: {before.path} has none")
         for row in (lost for lost in old if lost not in new):
-            yield FileFault(
-                day.path, day.line_of_tag(tag), tag, NO_ROW, f"{shown(row)}, as {before.path}:{before.line_of(row)}"
-            )
+            where = f"{shown(row)}, as {before.path}:{before.line_of(row)}"
+            yield FileFault(day.path, day.line_of_tag(tag), tag, NO_ROW, where)
     yield from new_periods(before, day)
 
 
@@ -38,9 +37,8 @@ def new_periods(before: DayText, day: DayText) -> Iterator[FileFault]:
     """The periods that the day before does not have, as faults."""
     count = len(before.head.periods)
     for row in rows_with_tag(day, "period")[count:]:
-        yield FileFault(
-            day.path, day.line_of(row), "period", shown(row), f"{NO_ROW}: {before.path} has {count} periods"
-        )
+        said = f"{NO_ROW}: {before.path} has {count} periods"
+        yield FileFault(day.path, day.line_of(row), "period", shown(row), said)
 
 
 def lost_period(before: DayText, day: DayText) -> FileFault | None:
@@ -50,8 +48,7 @@ def lost_period(before: DayText, day: DayText) -> FileFault | None:
         there = new[place] if place < len(new) else None
         if there != period:
             line = day.line_of(rows_with_tag(day, "period")[place]) if there else day.line_of_tag("lags")
-            kept = (
-                f"period {place + 1} of {before.path}, {period[0]} to {period[1]}: periods are kept, and only added to"
-            )
+            was = f"period {place + 1} of {before.path}, {period[0]} to {period[1]}"
+            kept = f"{was}: periods are kept, and only added to"
             return FileFault(day.path, line, "period", f"{there[0]} to {there[1]}" if there else NO_ROW, kept)
     return None

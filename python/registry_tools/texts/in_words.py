@@ -5,7 +5,7 @@ import re
 import sys
 from collections.abc import Callable, Collection, Iterable, Iterator, Sequence
 from pathlib import Path
-from typing import NoReturn
+from typing import Any, NamedTuple, NoReturn
 
 from registry_tools import streams, tables
 from registry_tools.second import rules
@@ -76,14 +76,40 @@ def words_of(act: str, fields: Sequence[str], account: Callable[[str], str] = st
         parts = [f"{grouped(amount)} to {account(number)}" for number, amount in zip(shares[::2], shares[1::2])]
         return f"distribution of {kind} from {account(giver)}: {', '.join(parts)}"
     said = zip(ACTS[act].fields.split(), fields, strict=True)
-    return ACTS[act].sentence.format(
-        *(grouped(word) if name in AMOUNTS else account(word) if name in OF_ACCOUNTS else word for name, word in said)
-    )
+    words = (grouped(own) if name in AMOUNTS else account(own) if name in OF_ACCOUNTS else own for name, own in said)
+    return ACTS[act].sentence.format(*words)
 
 
 def instruction_in_words(i: rules.Instruction, account: Callable[[str], str] = str) -> str:
     """An instruction in words."""
     return words_of(i.act, i.fields[4:], account)
+
+
+class ActColumns(NamedTuple):
+    """What the columns of an act say."""
+
+    first: int | str = ""
+    to: int | str = ""
+    kind: str = ""
+    amount: int | str = ""
+    year: int | str = ""
+    status: str = ""
+    record_named: int | str = ""
+
+
+def act_columns(i: rules.Instruction) -> list[ActColumns]:
+    """The columns of an instruction: once, or for each account that receives."""
+    if i.act == "create":
+        return [ActColumns("", i.first, rules.known(i.kind), i.amounts[0])]
+    if i.shares:
+        return [ActColumns(i.first, to, rules.known(i.kind), amount) for to, amount in i.shares]
+    kind_and_amount: dict[str, Any] = {"kind": i.kind, "amount": sum(i.amounts)}
+    more: dict[str, dict[str, Any]] = {
+        "surrender": kind_and_amount, "delete": kind_and_amount, "reverse": {"record_named": i.number},
+        "trust": {"to": i.other}, "untrust": {"to": i.other}, "status": {"status": i.status},
+        "emissions": {"amount": i.tonnes, "year": i.year}, "assess": {"year": i.year},
+    }  # fmt: skip
+    return [ActColumns(i.first, **more[i.act])]
 
 
 def box_lines(name: object, i: rules.Instruction) -> list[str]:
@@ -112,9 +138,8 @@ def table_lines(head: Sequence[str], rows: Sequence[Sequence[str]], right: Colle
     widths = [max(len(row[place]) for row in [head, *rows]) for place in range(len(head))]
 
     def line(row: Sequence[str]) -> str:
-        cells = [
-            cell.rjust(width) if name in right else cell.ljust(width) for name, cell, width in zip(head, row, widths)
-        ]
+        pairs = zip(head, row, widths)
+        cells = (cell.rjust(width) if name in right else cell.ljust(width) for name, cell, width in pairs)
         return "  ".join(cells).rstrip()
 
     return [line(head), *map(line, rows)]

@@ -20,9 +20,8 @@ def read_lanes(text: str) -> list[list[int]]:
     for line in text.splitlines():
         match = LANE.fullmatch(line)
         if match is None or int(match[1]) != len(lanes):
-            raise LanesFault(
-                len(lanes) + 1, line, f"worker {len(lanes)}: its number, a colon, and the places that it executed"
-            )
+            expected = f"worker {len(lanes)}: its number, a colon, and the places that it executed"
+            raise LanesFault(len(lanes) + 1, line, expected)
         lanes.append([int(place) for place in match[2].split()])
     return lanes
 

@@ -85,18 +85,12 @@ def mended(path: str) -> Mended:
         return Mended(rows_of_text(path, text), None, changes, is_plain='"' not in text)
     if separator == ",":
         source = rows_of_text(path, text)
-        raw = [source.fields(index) for index in range(len(source))]
-        lines = [*source.lines]
+        raw, lines = [source.fields(index) for index in range(len(source))], [*source.lines]
     else:
-        raw, lines = separated(text, separator)
+        records = [*records_of(text, separator)]
+        raw, lines = [fields for _, fields in records], [line for line, _ in records]
         changes.append((lines[0], f"{SEPARATORS[separator]} stand between the fields, and must be commas"))
     return Mended(*tidied(path, raw, lines, changes), changes, is_plain='"' not in text)
-
-
-def separated(text: str, separator: str) -> tuple[list[list[str]], list[int]]:
-    """The rows of a text with another separator, and their lines."""
-    records = [*records_of(text, separator)]
-    return [fields for _, fields in records], [line for line, _ in records]
 
 
 def tidied(path: str, raw: list[list[str]], lines: list[int], changes: list[Change]) -> tuple[Rows, list[list[str]]]:
@@ -104,9 +98,7 @@ def tidied(path: str, raw: list[list[str]], lines: list[int], changes: list[Chan
     numbers: list[int] = []
     source = Rows(path, [], numbers)
     kept: list[list[str]] = []
-    padded: list[int] = []
-    blank: list[int] = []
-    empty: list[int] = []
+    padded, blank, empty = list[int](), list[int](), list[int]()
     for line, fields in zip(lines, raw):
         words = [*map(stripped, fields)]
         if words != fields:

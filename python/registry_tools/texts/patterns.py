@@ -1,7 +1,7 @@
 """Patterns of rows, made of the grammar of `faults`. A book may have a million rows: one look at a row by a pattern is
 quicker than to read each of its fields. What a pattern does not match is read again, field by field.
 """
-import datetime
+import calendar
 import functools
 import re
 from collections.abc import Iterable
@@ -9,62 +9,28 @@ from collections.abc import Iterable
 from registry_tools import tables
 from registry_tools.second import faults
 
-NO_NUMBER = "(?!)"
-
-
-def any_digits(count: int) -> str:
-    """The pattern of so many digits."""
-    return "" if not count else "[0-9]" if count == 1 else f"[0-9]{{{count}}}"
-
-
-def of_length(low: str, high: str) -> list[str]:
-    """Patterns that match together the digits from `low` to `high`, which are as many."""
-    if not low:
-        return [""]
-    rest = len(low) - 1
-    if {*low} == {"0"} and {*high} == {"9"}:
-        return [any_digits(rest + 1)]
-    if low[0] == high[0]:
-        return [low[0] + pattern for pattern in of_length(low[1:], high[1:])]
-    first, last = int(low[0]), int(high[0])
-    lowest: list[str] = []
-    highest: list[str] = []
-    if low[1:].strip("0"):
-        lowest = [low[0] + pattern for pattern in of_length(low[1:], "9" * rest)]
-        first += 1
-    if high[1:].strip("9"):
-        highest = [high[0] + pattern for pattern in of_length("0" * rest, high[1:])]
-        last -= 1
-    between = [f"[{first}-{last}]{any_digits(rest)}"] if first <= last else []
-    return [*between, *lowest, *highest]
-
-
-def digits(low: int, high: int) -> str:
-    """The pattern of the numbers from `low`, which is at least 1, to `high`, in plain digits."""
-    if high < low:
-        return NO_NUMBER
-    patterns = []
-    # Numbers of any digits take one pattern together.
-    least, most = len(str(low - 1)) if low == 1 else len(str(low - 1)) + 1, len(str(high + 1)) - 1
-    if least <= most:
-        patterns.append(f"[1-9][0-9]{{{least - 1},{most - 1}}}")
-    for count in range(len(str(low)), len(str(high)) + 1):
-        if not least <= count <= most:
-            lowest, highest = max(low, 10 ** (count - 1)), min(high, 10**count - 1)
-            patterns += of_length(str(lowest), str(highest))
-    return "|".join(patterns)
+NO_NUMBER, FEW = "(?!)", 10
+YEARS = range(tables.FIRST_YEAR, tables.LAST_YEAR + 1)
 
 
 def of_numbers(numbers: range) -> str:
-    """The pattern of the numbers of a range, without leading zeros."""
-    parts = []
-    if numbers[-1] > 0:
-        parts.append(digits(max(numbers[0], 1), numbers[-1]))
-    if 0 in numbers:
-        parts.append("0")
-    if numbers[0] < 0:
-        parts.append(f"-(?:{digits(max(-numbers[-1], 1), -numbers[0])})")
-    return "|".join(parts)
+    """A pattern of numbers of a range, without leading zeros: of all years and of all that are few, and else of those
+    that have fewer digits than the first one above the range. The others are read field by field."""
+    if numbers[-1] - numbers[0] < FEW:
+        return "|".join(map(str, numbers))
+    if numbers == YEARS:
+        return of_years(numbers)
+    most = max(abs(numbers[0]), abs(numbers[-1]))
+    sign = "" if numbers[0] >= 0 else "-?" if numbers[-1] > 0 else "-"
+    return f"{sign}[1-9][0-9]{{0,{len(str(most + 1)) - 2}}}" + ("|0" if 0 in numbers else "")
+
+
+def of_years(years: Iterable[int]) -> str:
+    """The pattern of these years."""
+    centuries: dict[int, list[int]] = {}
+    for year in years:
+        centuries.setdefault(year // 100, []).append(year % 100)
+    return "|".join(f"{century}(?:{of_two_digits(own)})" for century, own in centuries.items())
 
 
 def of_two_digits(numbers: Iterable[int]) -> str:
@@ -75,28 +41,17 @@ def of_two_digits(numbers: Iterable[int]) -> str:
     return "|".join(f"{tens}[{own}]" for tens, own in units.items())
 
 
-def days_in(year: int, month: int) -> int:
-    """How many days a month has."""
-    first = datetime.date(year, month, 1)
-    return ((first + datetime.timedelta(31)).replace(day=1) - first).days
-
-
 @functools.lru_cache(maxsize=None)
 def dates() -> str:
     """The pattern of all dates that exist. The last year, which is no leap year, tells how many days each month has."""
-    years = range(tables.FIRST_YEAR, tables.LAST_YEAR + 1)
     months: dict[int, list[int]] = {}
     for month in range(1, 13):
-        months.setdefault(days_in(tables.LAST_YEAR, month), []).append(month)
+        months.setdefault(calendar.monthrange(tables.LAST_YEAR, month)[1], []).append(month)
     days = "|".join(
         f"(?:{of_two_digits(own)})-(?:{of_two_digits(range(1, most + 1))})" for most, own in months.items()
     )
-    leap: dict[int, list[int]] = {}
-    for year in years:
-        if days_in(year, 2) == 29:
-            leap.setdefault(year // 100, []).append(year % 100)
-    leap_years = "|".join(f"{century}(?:{of_two_digits(own)})" for century, own in leap.items())
-    return f"(?:{of_numbers(years)})-(?:{days})|(?:{leap_years})-02-29"
+    leap_years = of_years(filter(calendar.isleap, YEARS))
+    return f"(?:{of_years(YEARS)})-(?:{days})|(?:{leap_years})-02-29"
 
 
 def of_field(own: faults.Field) -> str:

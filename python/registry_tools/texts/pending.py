@@ -17,7 +17,7 @@ from pathlib import Path
 from typing import Any, NamedTuple
 
 from registry_tools import tables
-from registry_tools.errors import FileFault, WordsFault, shown
+from registry_tools.errors import FileFault, WordsFault, of_file, shown
 from registry_tools.output import must_be_writable
 from registry_tools.second import faults, rules
 from registry_tools.texts.accounts import Reader
@@ -78,15 +78,12 @@ class PendingFile:
 def chosen_path(old: str | None, new: str | None) -> str | None:
     """The path of the pending file: one that is there, or a new one. It is looked at before anything else is done."""
     if old and new:
-        raise WordsFault(
-            f"--pending {old} is a file that is there, and --pending-new {new} one that is made: only one of them"
-        )
+        both = f"--pending {old} is a file that is there, and --pending-new {new} one that is made"
+        raise WordsFault(f"{both}: only one of them")
     if old and not Path(old).exists():
-        raise FileFault(
-            old, 0, "", "it is not there, so nobody knows what waits: the first use says --pending-new FILE", ""
-        )
+        raise of_file(old, "it is not there, so nobody knows what waits: the first use says --pending-new FILE")
     if new and Path(new).exists():
-        raise FileFault(new, 0, "", "it is there already: --pending FILE goes on with it", "")
+        raise of_file(new, "it is there already: --pending FILE goes on with it")
     path = old or new
     if path:
         must_be_writable(path)
@@ -186,26 +183,25 @@ def still_waiting(file: PendingFile, day: DayText, report: Report, date: datetim
             continue
         if waits.entered is None or (entered_later if file.made else waits.entered > day.head.date):
             found.waiting.append(Waiting(waits.record, waits.instruction, place=waits.place))
-        elif is_entered_into(file, waits, day) and tuple(waits.instruction.fields) not in there:
-            found.lost.append(waits)
+        elif tuple(waits.instruction.fields) not in there:
+            made = file.made.next_record == day.head.next_record if file.made else waits.entered == day.head.date
+            found.lost += [waits] if made else []
     return found
 
 
 def must_not_be_later(file: PendingFile, report: Report, date: datetime.date) -> None:
     """Ends the command if a file was written behind a later day than the report is of."""
+    later = f"the next one of {report.path}: this file belongs to a later day"
     if file.made and file.made.next_record > report.next_record:
-        known = f"at most {report.next_record}, the next one of {report.path}: this file belongs to a later day"
+        known = f"at most {report.next_record}, {later}"
         raise FileFault(file.path, 1, "NEXT", file.made.next_record, known)
     for waits, line in file.rows:
         if (waits.record or 0) >= report.next_record:
-            known = (
-                f"a record before {report.next_record}, the next one of {report.path}: this file belongs to a later day"
-            )
+            known = f"a record before {report.next_record}, {later}"
             raise FileFault(file.path, line, "RECORD", waits.record, known)
         if waits.entered and waits.entered > date and not file.made:
-            raise FileFault(
-                file.path, line, "DATE", waits.entered, f"no day after {date}: this file belongs to a later day"
-            )
+            known = f"no day after {date}: this file belongs to a later day"
+            raise FileFault(file.path, line, "DATE", waits.entered, known)
 
 
 def must_not_be_of_another_text(file: PendingFile, day: DayText, report: Report, there: set[tuple[str, ...]]) -> None:
@@ -231,22 +227,14 @@ def is_written_behind(
         return False
     if made.next_record == report.next_record and made.date > day.head.date:
         if made.date != date:
-            found.warnings.append(
-                f"{file.path} was written with a text of {made.date}, and now with one of {date}: "
-                f"the text of {made.date} must not be settled"
-            )
+            both = f"with a text of {made.date}, and now with one of {date}"
+            found.warnings.append(f"{file.path} was written {both}: the text of {made.date} must not be settled")
         return True
     if (made.next_record, made.date) < (day.head.next_record, day.head.date):
-        found.warnings.append(
-            f"{file.path} was written with the text of {made.date}, and not with {day.path}: is a day left out? "
-            "What the days between refused as NotDue is not in it"
-        )
+        left_out = "is a day left out? What the days between refused as NotDue is not in it"
+        other = f"with the text of {made.date}, and not with {day.path}"
+        found.warnings.append(f"{file.path} was written {other}: {left_out}")
     return False
-
-
-def is_entered_into(file: PendingFile, waits: Waiting, day: DayText) -> bool:
-    """Whether a row says that an instruction was entered into the text of the day."""
-    return file.made.next_record == day.head.next_record if file.made else waits.entered == day.head.date
 
 
 def waiting_before(file: PendingFile, day: DayText, report: Report) -> list[Waiting]:

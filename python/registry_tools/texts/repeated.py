@@ -26,10 +26,9 @@ class Handed:
         """Each row that was handed in before, with its places in words."""
         places: dict[str, list[str]] = {}
         waits = {own.record for own in self.waiting}
+        by_itself = "where it waits and comes into the text of its due day by itself"
         for own in self.waiting:
-            places.setdefault(own.instruction.row, []).append(
-                f"{own.place}, where it waits and comes into the text of its due day by itself"
-            )
+            places.setdefault(own.instruction.row, []).append(f"{own.place}, {by_itself}")
         for place, logged in enumerate(self.report.log):
             if logged.record not in waits:
                 where = f"{self.day.path}:{self.day.line_of_instruction(place)}, {outcome_of(logged)}"
@@ -47,10 +46,8 @@ def tell_repeated(handed: Handed, is_again: bool, notes: Notes) -> None:
     place = place_in(handed.day.do_rows, new.rows)
     if place is not None and len(new.rows) > 1:
         first = f"{handed.day.path}:{handed.day.line_of_instruction(place)}"
-        notes.warn(
-            f"{new.path}: its {len(new.rows)} rows stand from {first} on, as they are: "
-            f"was this file handed in before? {MEANT}"
-        )
+        there = f"its {len(new.rows)} rows stand from {first} on, as they are"
+        notes.warn(f"{new.path}: {there}: was this file handed in before? {MEANT}")
     elif lines:
         notes.warn(*first_ones(lines, f"rows of {new.path} that were handed in before"))
 
@@ -87,10 +84,8 @@ def tell_dates(new: Rows, head: rules.Day, notes: Notes) -> None:
         if proposed > head.date:
             later.append(f"{where}: found {proposed}, which is later than {head.date}: a slip?")
         elif is_long_before(head, proposed):
-            early.append(
-                f"{where}: found {proposed}, longer before {head.date} than the longest lag and the window together: "
-                "a slip?"
-            )
+            longer = f"longer before {head.date} than the longest lag and the window together"
+            early.append(f"{where}: found {proposed}, {longer}: a slip?")
         elif head.working_days and proposed < head.working_days[0]:
             early.append(f"{where}: found {proposed}, and the calendar begins on {head.working_days[0]}: a slip?")
     notes.warn(*first_ones(later, f"rows of {new.path} that were proposed later"))

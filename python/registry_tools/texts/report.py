@@ -51,6 +51,7 @@ class Report(WithBook):
     totals: dict[str, list[int]]
     first_account: int
     first_totals: int
+    others: list[int] | None = None
 
     @property
     def book_rows(self) -> list[str]:
@@ -130,9 +131,8 @@ class LogFields:
             count = len(faults.ACTS[act])
         own = faults.fields_of_act(act, count)
         if own is None:
-            raise self.reader.source.fault(
-                self.index, "log row", f"{count} fields behind distribute", faults.forms_of_act(act)
-            )
+            found = f"{count} fields behind distribute"
+            raise self.reader.source.fault(self.index, "log row", found, faults.forms_of_act(act))
         for each in own:
             self.next(each)
         return self.fields[begun : self.place]
@@ -174,9 +174,8 @@ def written_row(source: Rows, index: int, tag: str, fields: list[faults.Field]) 
     if len(words) != len(fields) + 1:
         expected = f"{len(fields) + 1} fields: {faults.form_of(tag, fields)}"
         raise source.fault(index, f"{tag} row", f"{len(words)} fields", expected)
-    return [
-        LogFields(Reader(source, faults.Reading()), index).checked(own, place) for place, own in enumerate(fields, 1)
-    ]
+    row = LogFields(Reader(source, faults.Reading()), index)
+    return [row.checked(own, place) for place, own in enumerate(fields, 1)]
 
 
 def read_report(path: str | Path, day: DayText | None = None) -> Report:
@@ -201,7 +200,7 @@ def report_of(source: Rows, day: DayText | None = None) -> Report:
     (next_record,) = written_row(source, index, "book", BOOK)
     reader.reading.next_record = next_record
     first_account = index + 1
-    book, index = reader.blocks(first_account, day.known() if day else None)
+    book, index, others = reader.blocks(first_account, day.known() if day else None)
     first_totals = index
     totals: dict[str, list[int]] = {}
     for kind in rules.KINDS:
@@ -211,4 +210,4 @@ def report_of(source: Rows, day: DayText | None = None) -> Report:
     written_row(source, index, "end", [])
     if index + 1 < len(source):
         raise source.fault(index + 1, "", "a row behind the row end", "the end of the file")
-    return Report(source, log, next_record, book, totals, first_account, first_totals)
+    return Report(source, log, next_record, book, totals, first_account, first_totals, others)

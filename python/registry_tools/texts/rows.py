@@ -13,7 +13,7 @@ from dataclasses import dataclass, field
 from pathlib import Path
 
 from registry_tools import streams
-from registry_tools.errors import FileFault
+from registry_tools.errors import FileFault, of_file
 from registry_tools.progress import progress
 
 # How the files begin that spreadsheets save by themselves, which are no texts.
@@ -70,7 +70,7 @@ def packed_bytes_of(path: str | Path) -> bytes:
     try:
         return Path(path).read_bytes() if is_file(path) else read_once(str(path))
     except OSError as error:
-        raise FileFault(path, 0, "", f"it cannot be read: {error.strerror}", "") from None
+        raise of_file(path, f"it cannot be read: {error.strerror}") from None
 
 
 def bytes_of(path: str | Path) -> bytes:
@@ -80,11 +80,10 @@ def bytes_of(path: str | Path) -> bytes:
         try:
             content = gzip.decompress(content)
         except (OSError, EOFError, zlib.error) as error:
-            raise FileFault(path, 0, "", f"it cannot be unpacked: {error}", "") from None
+            raise of_file(path, f"it cannot be unpacked: {error}") from None
     if content.startswith(WORKBOOKS):
-        raise FileFault(
-            path, 0, "", "a workbook of a spreadsheet", "a text: let the spreadsheet save the table as CSV in UTF-8"
-        )
+        expected = "a text: let the spreadsheet save the table as CSV in UTF-8"
+        raise FileFault(path, 0, "", "a workbook of a spreadsheet", expected)
     return content
 
 
@@ -111,6 +110,11 @@ def rows_of(path: str | Path) -> Rows:
     return rows_of_text(path, bytes_of(path).decode("utf-8-sig", "surrogateescape"))
 
 
+def text_of_rows(rows: Sequence[str]) -> bytes:
+    """Rows as the content of a file; nothing, if there are none."""
+    return "\n".join([*rows, ""]).encode("utf-8", "surrogateescape")
+
+
 def rows_of_text(path: str | Path, text: str) -> Rows:
     """The rows of a text, each with its line."""
     if '"' in text:
@@ -126,9 +130,7 @@ def rows_of_text(path: str | Path, text: str) -> Rows:
 
 def rows_with_quotes(path: str | Path, text: str) -> Rows:
     """The rows of a text in which a quote stands: a row may then go on in the next line."""
-    rows: list[str] = []
-    lines: list[int] = []
-    unplain: dict[int, list[str]] = {}
+    rows, lines, unplain = list[str](), list[int](), dict[int, list[str]]()
     try:
         for line, fields in records_of(text):
             if any(UNPLAIN.search(word) for word in fields):
@@ -136,9 +138,8 @@ def rows_with_quotes(path: str | Path, text: str) -> Rows:
             rows.append(",".join(fields))
             lines.append(line)
     except csv.Error as error:
-        raise FileFault(
-            path, (lines[-1] if lines else 0) + 1, "", str(error), "rows of fields with commas between them"
-        ) from None
+        behind = lines[-1] + 1 if lines else 1
+        raise FileFault(path, behind, "", str(error), "rows of fields with commas between them") from None
     return Rows(path, rows, lines, unplain)
 
 

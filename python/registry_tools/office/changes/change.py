@@ -35,7 +35,8 @@ from registry_tools.options import add_to
 from registry_tools.output import write_answer
 from registry_tools.texts.accounts import Block
 from registry_tools.texts.day_text import DayText
-from registry_tools.texts.pairs import read_pair
+from registry_tools.texts.follows import read_pair
+from registry_tools.texts.rows import text_of_rows
 
 EXAMPLE = './day change 100210 --holder 5503 --why "sold" --office out/office'
 FIELDS = {"holder": "HOLDER", "outside": "OUTSIDE", "waiver": "WAIVER"}
@@ -182,8 +183,8 @@ def run(said: argparse.Namespace) -> int:
         raise WordsFault("--why is needed: it is kept with the change")
     if said.to is not None:
         raise WordsFault("--to is for --pairs: a folder keeps the change itself")
-    who, why = words.one_line("--who", said.who), words.one_line("--why", said.why)
-    with folder.locked(said.office, "change", who, folder.to_errors, said.seen, said.whom) as office:
+    why = words.one_line("--why", said.why)
+    with words.changing(said, "change") as office:
         handed_in = office.handed_in()
         handed_in.remove_unnamed()
         composing.last_day(office)
@@ -191,7 +192,7 @@ def run(said: argparse.Namespace) -> int:
         composed = composing.compose(office, handed_in.until(date), date)
         lags = composed.day(office.next_folder / NEXT).head.lags
         made = edits_of(said, lags, labels.of_folder(office.path))
-        return show_and_keep(office, handed_in, composed, made, said.yes, who, why)
+        return show_and_keep(office, handed_in, composed, made, said.yes, why)
 
 
 def on_paths(said: argparse.Namespace) -> int:
@@ -202,7 +203,7 @@ def on_paths(said: argparse.Namespace) -> int:
         where = "change a row of the rules in the text that ./day next writes"
         raise WordsFault(f"with --pairs only accounts are changed: {where}")
     blocks = edits.edited_blocks(made, report, {})
-    text = handed.text_of_rows([row for rows in blocks.values() for row in rows])
+    text = text_of_rows([row for rows in blocks.values() for row in rows])
     with tempfile.TemporaryDirectory() as work:
         path = Path(work) / "changes.csv"
         path.write_bytes(text)
@@ -243,7 +244,7 @@ def look_at(handed_in: HandedIn, composed: NextDay, office: Office, made: list[E
     """Puts differences into the folder of what was handed in, where they do not count yet, and makes the next day with
     them. Ends the command if it cannot have them, or if they change nothing."""
     date, before = composed.date, composed.day(office.next_folder / NEXT)
-    content = handed.text_of_rows([edit.row() for edit in made])
+    content = text_of_rows([edit.row() for edit in made])
     try:
         part = handed_files.put(handed_in, handed.EDITS, content, len(made), why, who)
         changed = composing.compose(office, handed_in.until(date), date)
@@ -258,11 +259,11 @@ def look_at(handed_in: HandedIn, composed: NextDay, office: Office, made: list[E
 
 
 def show_and_keep(
-    office: Office, handed_in: HandedIn, composed: NextDay, made: list[Edit], counts: bool, who: str, why: str
+    office: Office, handed_in: HandedIn, composed: NextDay, made: list[Edit], counts: bool, why: str
 ) -> int:
     """Shows the difference, looks whether the next day can have it, and keeps it if it counts."""
     try:
-        difference = look_at(handed_in, composed, office, made, who, why)
+        difference = look_at(handed_in, composed, office, made, office.who, why)
         print(streams.by_name("\n".join([*difference.rows(), *difference.notes])))
         left = handed_in.make_count() if counts else ""
     except BaseException:

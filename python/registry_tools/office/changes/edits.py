@@ -97,10 +97,8 @@ def must_be_readable(edit: Edit) -> None:
         # (of a row that is left out, the first field is enough)
         fields = FIELDS[tag][: max(len(words), 1)] if edit.how == DROP and edit.number else FIELDS[tag]
     if len(fields) != len(words):
-        raise WordsFault(
-            f"{edit.row()} has {len(words)} fields where {len(fields)} are wanted: "
-            f"{', '.join(field.name for field in fields)}"
-        )
+        wanted = f"{len(fields)} are wanted: {', '.join(field.name for field in fields)}"
+        raise WordsFault(f"{edit.row()} has {len(words)} fields where {wanted}")
     for field, word in zip(fields, words):
         value_of(field, word)
 

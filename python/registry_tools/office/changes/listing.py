@@ -31,7 +31,7 @@ def run(said: argparse.Namespace) -> int:
     if said.pairs:
         rows = [*changes_of_pairs(past.pairs_of(said))]
     else:
-        rows = [*changes_of(folder.opened(said.office, folder.to_errors))]
+        rows = [*changes_of(folder.opened(said.office))]
     showing.show(said, COLUMNS, rows)
     return 0
 
@@ -65,15 +65,11 @@ def changes_of_day(path: Path, date: str) -> Iterator[list[Cell]]:
 def items_of_day(path: Path) -> Iterator[Item]:
     """The same as they were handed in."""
     filed = handed_journal.read_journal(path / FILES["handed"])
-    left = {
-        kind: handed_files.items_of_text(path / FILES[kind], kind, files.bytes_in(path / FILES[kind]))
-        for kind in (CHANGES, EDITS)
-    }
-    gone = {taking.place for taking in filed.taken}
+    paths = {kind: path / FILES[kind] for kind in (CHANGES, EDITS)}
+    left = {kind: handed_files.items_of_text(own, kind, files.bytes_in(own)) for kind, own in paths.items()}
     for part in filed.parts:
-        if part.kind in left:
-            for place in (place for place in range(part.start, part.end) if place not in gone):
-                yield Item(place, part, handed_files.next_item(left[part.kind], path / FILES[part.kind]), [])
+        for place in filed.left_of(part) if part.kind in left else ():
+            yield Item(place, part, handed_files.next_item(left[part.kind], paths[part.kind]), [])
 
 
 def change_row(day: str, item: Item) -> list[Cell]:

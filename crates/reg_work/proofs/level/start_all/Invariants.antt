@@ -9,5 +9,6 @@ invariant-loop-part g l = record {
   ends : (goal.iterator-loop-part g).is_finite l.part-iterator;
   room : vec_len l.handles + length l.part-iterator.rest.items ≤ vec_capacity l.handles;
   tasks : flat_map (λ handle. handle.promise.tasks.value.items) l.handles.items
-      ++ joined_lists l.part-iterator.rest.items ≡ joined_lists l.fn.parts.items;
+      ++ joined_lists l.part-iterator.rest.items
+      ≡ joined_lists l.fn.parts.items;
 }

@@ -40,8 +40,7 @@ plus-totals-requires g c =
     let items = c.in-Some.ensures.steps.0 ∙ ap (λ (r : Result Blocks NoMemory). r ∷ behind) c.in_ok-blocks.was in
     run-of_lists-has_space c.loop-run.totals c.in_ok-blocks.blocks all whole size c.loop-run.pieces.items behind
     c.requires.fit c.requires.few
-    (subst (IsSpelled AreBlocksOfLists (λ first lists. blocks_text (joined_lists lists))
-    (λ (blocks : Blocks). blocks.text)
+    (subst (IsSpelled AreBlocksOfLists (λ first lists. blocks_text (joined_lists lists)) (λ (b : Blocks). b.text)
     (λ others. AddUpWith c.loop-run.totals all (joined_lists others)) whole size c.loop-run.pieces.items) items
     c.loop-run.invariant.spelled)
 
@@ -70,9 +69,8 @@ returns-clause-text g c =
     let before = text_of_pieces c.args.pieces.now.items in
     (all-pieces AreBlocksOfLists (λ first lists. blocks_text (joined_lists lists)) (λ (b : Blocks). b.text) lists-texts
     (λ others. AddUpWith c.loop-run.totals all (joined_lists others)) (before ++ blocks_text all)
-    c.lists_of_run-size.result
-    c.loop-run.pieces.items c.loop-run.run-iterator.rest.items (sym c.loop-run.run-iterator.rest.ok.0
-    ∙ c.in-None.ensures.steps.0) c.loop-run.invariant.spelled).0
+    c.lists_of_run-size.result c.loop-run.pieces.items c.loop-run.run-iterator.rest.items
+    (sym c.loop-run.run-iterator.rest.ok.0 ∙ c.in-None.ensures.steps.0) c.loop-run.invariant.spelled).0
 
 pub returns-clause-totals : goal.returns-clause-totals
 returns-clause-totals g c =
@@ -81,6 +79,5 @@ returns-clause-totals g c =
     added-all c.loop-run.totals all
     (all-pieces AreBlocksOfLists (λ first lists. blocks_text (joined_lists lists)) (λ (b : Blocks). b.text) lists-texts
     (λ others. AddUpWith c.loop-run.totals all (joined_lists others)) (before ++ blocks_text all)
-    c.lists_of_run-size.result
-    c.loop-run.pieces.items c.loop-run.run-iterator.rest.items (sym c.loop-run.run-iterator.rest.ok.0
-    ∙ c.in-None.ensures.steps.0) c.loop-run.invariant.spelled).1
+    c.lists_of_run-size.result c.loop-run.pieces.items c.loop-run.run-iterator.rest.items
+    (sym c.loop-run.run-iterator.rest.ok.0 ∙ c.in-None.ensures.steps.0) c.loop-run.invariant.spelled).1

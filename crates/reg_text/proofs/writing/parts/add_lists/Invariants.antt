@@ -13,7 +13,8 @@ invariant-loop-run g l = record {
   next : (goal.iterator-loop-run g).can_next l.run-iterator;
   ends : (goal.iterator-loop-run g).is_finite l.run-iterator;
   spelled : IsSpelled AreBlocksOfLists (λ first lists. blocks_text (joined_lists lists))
-      (λ (blocks : Blocks). blocks.text) (λ others. AddUpWith l.totals (joined_lists l.fn.lists) (joined_lists others))
+      (λ (blocks : Blocks). blocks.text)
+      (λ others. AddUpWith l.totals (joined_lists l.fn.lists) (joined_lists others))
       (text_of_pieces l.fn.pieces.items ++ blocks_text (joined_lists l.fn.lists)) l.size l.pieces.items
       l.run-iterator.rest.items;
 }
