@@ -92,11 +92,11 @@ def last_day(office: Office) -> Event:
     return last
 
 
-def last_pair(office: Office) -> tuple[DayText, Report]:
-    """The last day of a folder, and its report."""
+def last_pair(office: Office, has_book: bool = True) -> tuple[DayText, Report]:
+    """The last day of a folder, and its report; without the accounts before the day, if nobody asks for them."""
     last = last_day(office)
     raise_first(office.changed_files(last))
-    return past.read(past.pair_of(office, last), None)
+    return past.read(past.pair_of(office, last), None, has_book)
 
 
 def filed_calendar(office: Office, event: Event) -> list[datetime.date]:
@@ -155,7 +155,7 @@ def about_first(first: DayText, new: list[Item]) -> Iterator[str]:
 def later_day(office: Office, handed_in: HandedIn, date: datetime.date) -> NextDay:
     """A later day, as `./day next` writes it."""
     last = last_day(office)
-    day, report = last_pair(office)
+    day, report = last_pair(office, has_book=False)
     if date <= last.date:
         raise WordsFault(f"--date {date} is not later than {last.date}, the last day")
     contents = contents_of(handed_in)

@@ -140,12 +140,13 @@ def read_all(pairs: list[Pair]) -> Iterator[PastDay]:
         yield before
 
 
-def read(pair: Pair, before: PastDay | None) -> tuple[DayText, Report]:
-    """A day text and its report. A filed pair was looked at when it was filed: it has to be what it was then."""
+def read(pair: Pair, before: PastDay | None, has_book: bool = True) -> tuple[DayText, Report]:
+    """A day text and its report. A filed pair was looked at when it was filed: it has to be what it was then. Of such a
+    day the accounts are left out, if nobody asks for them."""
     if pair.office:
         pair.must_be_as_filed()
         with contextlib.suppress(ValueError, IndexError):
-            filed = filed_day(rows_of(pair.day), before.report if before else None)
+            filed = filed_day(rows_of(pair.day), before.report if before else None, has_book)
             return filed, filed_report(rows_of(pair.report), filed)
     day = read_day(pair.day, before.report.known(before.day) if before else None)
     report = read_report(pair.report, day)

@@ -12,7 +12,7 @@ from registry_tools.texts.runs import runs_of
 def book_of(source: Rows, first: int, known: dict[int, Block]) -> tuple[dict[int, Block], int, list[int] | None]:
     """The accounts from this row on, and the place of the row behind them: by those of a text before it, if there is
     one; then also which do not stand so there."""
-    rows, book, behind, others = source.rows, dict[int, Block](), len(source), list[int]()
+    rows, book, behind, others = source.rows, dict[int, Block](), first, list[int]()
     if known:
         for run in runs_of(rows, first, [*known.values()]):
             for start, stop in () if run.same else run.places():
@@ -21,9 +21,8 @@ def book_of(source: Rows, first: int, known: dict[int, Block]) -> tuple[dict[int
                 others.append(number)
             run.add_to(book, source)
             behind = run.behind
-        return book, behind if book else first, others
-    while rows[behind - 1].startswith(("do,", "totals,", "end")):
-        behind -= 1
+        return book, behind, others
+    behind = behind_accounts(source)
     # (of the rows of accounts, only the first of each begins with this letter)
     starts = [place for place in range(first, behind) if rows[place][0] == "a"]
     for start, end in zip(starts, [*starts[1:], behind]):
@@ -32,11 +31,23 @@ def book_of(source: Rows, first: int, known: dict[int, Block]) -> tuple[dict[int
     return book, behind, None
 
 
-def filed_day(source: Rows, before: Report | None = None) -> DayText:
-    """The day text of these rows; quicker with the report of the day before. Raises ValueError if it can't be one."""
+def behind_accounts(source: Rows) -> int:
+    """The place of the row behind all accounts."""
+    behind = len(source)
+    while source.rows[behind - 1].startswith(("do,", "totals,", "end")):
+        behind -= 1
+    return behind
+
+
+def filed_day(source: Rows, before: Report | None = None, has_book: bool = True) -> DayText:
+    """The day text of these rows; quicker with the report of the day before, or where nobody asks for its accounts.
+    Raises ValueError if it can't be one."""
     first = next((place for place, row in enumerate(source.rows) if row.startswith(("account,", "do,", "end"))), 0)
     head = rules.day_of_fields(row.split(",") for row in source.rows[:first])
-    book, behind, others = book_of(source, first, before.book if before else {})
+    if has_book:
+        book, behind, others = book_of(source, first, before.book if before else {})
+    else:
+        book, behind, others = {}, behind_accounts(source), None
     instructions = [rules.read_instruction(row.split(",")[1:]) for row in source.rows[behind:-1]]
     version = int(source.rows[0].removeprefix("format,"))
     return DayText(source, version, head, book, instructions, first, behind, others)
