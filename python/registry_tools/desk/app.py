@@ -127,11 +127,10 @@ def dress(app: flask.Flask, served: Served) -> None:
         token=lambda: flask.session["token"], once=lambda: secrets.token_hex(8), state=lambda: flask.g.state,
         who=lambda: gate.known_name(served), says_name=not served.who and not served.header,
         has_leftovers=served.reading.has_leftovers, apart=beside.apart,
-        table=shown.sorted_table, acts=faults.ACT_WORDS, lag_words=words.LAGS,
-        meaning=lambda name: checks()[name].meaning,
+        table=shown.sorted_table, acts=faults.ACT_WORDS, meaning=lambda name: checks()[name].meaning,
     )  # fmt: skip
     app.jinja_env.filters.update(
-        grouped=grouped, local=words.local, label=words.label, date=long_date,
+        grouped=grouped, label=words.label, date=long_date,
         called=lambda word: long_date(word) if isinstance(word, datetime.date) else beside.called(word),
     )
     app.jinja_env.trim_blocks = app.jinja_env.lstrip_blocks = True

@@ -10,7 +10,6 @@ from registry_tools.desk import forms, gate, looks, shown
 from registry_tools.desk.gate import Served
 from registry_tools.desk.reading import Reading
 from registry_tools.desk.shown import asked, number_asked, row_of_taken, show_page, sorted_table
-from registry_tools.desk.words import local
 from registry_tools.errors import FileFault, WordsFault
 from registry_tools.notes import LOOK
 from registry_tools.office import approvals, awaited, handed, release as releasing, taken, undo as undoing
@@ -50,7 +49,7 @@ def today(served: Served) -> Any:
     office = own.office()
     handed_in, last = office.handed_in(), office.last()
     items = [
-        (item.place, item_in_words(item), item.part.name, item.part.who, local(item.part.at))
+        (item.place, item_in_words(item), item.part.name, item.part.who, item.part.at)
         for item in handed_in.items(*handed.KINDS)
     ]
     waits = [
@@ -128,14 +127,14 @@ def change(served: Served) -> Any:
     """The form of an account, of the rules, or of a new account. Raises WordsFault if there is no such account."""
     number, own = number_asked("account"), served.reading
     of = asked("of") if asked("of") in ("rules", "new") and number is None else "account"
-    if own.event() is None:
+    if own.office().last() is None:
         raise WordsFault("no day is settled yet: another first text stands in place of a change")
     day = own.text_of_next()
     if number is not None and number not in day.book:
         raise WordsFault(f"there is no account {number} in the next day's text")
-    fields = forms.rule_fields(day) if of == "rules" else forms.new_fields()
+    fields = [*forms.rule_fields(day)] if of == "rules" else forms.OF_NEW
     if number is not None:
-        fields = forms.account_fields(day.book[number], len(day.head.periods))
+        fields = [*forms.account_fields(day.book[number], len(day.head.periods))]
     known = forms.accounts_offered(own) if of == "account" and number is None else []
     return show_page("change", "Change", account=number, of=of, date=day.head.date, fields=fields, known=known)
 
@@ -177,7 +176,7 @@ def day_rows(served: Served) -> list[tuple[Any, ...]]:
     """All settled days, the last one first: who settled each when, how many records it has, by what, and whether it is
     released."""
     told = releasing.days_told(served.reading.office())
-    return [(str(own.date), own.who, local(own.at), own.next - own.first, *more) for own, *more in told]
+    return [(str(own.date), own.who, own.at, own.next - own.first, *more) for own, *more in told]
 
 
 def days(served: Served) -> Any:
@@ -194,8 +193,9 @@ def undo(served: Served) -> Any:
     """The page that asks whether the last day is taken back: what goes, and what is handed in and waits again. Raises
     WordsFault if it can't be."""
     own = served.reading
-    office, event = own.office(), own.event()
-    last = undoing.last_of(office, str(event.date) if event else None)
+    office = own.office()
+    there = office.last()
+    last = undoing.last_of(office, str(there.date) if there else None)
     date, settled = undoing.date_again(asked("date") or None, office, last), own.settled(last.date)
     assert settled is not None  # (it is the last day)
     again, waits = own.of_next("undo", date, lambda: looks.look_at_undo(own, last, date))

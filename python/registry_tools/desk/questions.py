@@ -14,7 +14,7 @@ from registry_tools.calendars.dates import date_of
 from registry_tools.calendars.due_days import NOT_DUE
 from registry_tools.desk.gate import Served
 from registry_tools.desk.shown import TYPED, asked, number_asked, row_of_taken, show_page, with_due_day
-from registry_tools.desk.words import PAGES, local
+from registry_tools.desk.words import PAGES
 from registry_tools.errors import WordsFault
 from registry_tools.notes import BY_HAND
 from registry_tools.office import taken
@@ -37,10 +37,8 @@ from registry_tools.texts.report import LogRow
 
 WORKBOOK = "application/vnd.openxmlformats-officedocument.spreadsheetml.sheet"
 # Where somebody goes on behind a command.
-BEHIND = {
-    "hand-in": ("/next", "To the next day"), "change": ("/next", "To the next day"),
-    "take-back": ("/next", "To the next day"), "label": ("/names", "To the names"),
-}  # fmt: skip
+BEHIND = dict.fromkeys(("hand-in", "change", "take-back"), ("/next", "To the next day"))
+BEHIND["label"] = ("/names", "To the names")
 
 # Accounts.
 
@@ -92,7 +90,7 @@ def row_of_history(row: Sequence[Any]) -> Sequence[Any]:
 
 def names(served: Served) -> Any:
     """The page of the names of users, holders and accounts."""
-    rows = [(*own[:3], local(own.at), *own[4:]) for own in served.reading.names().named.values()]
+    rows = [(*own[:3], own.at, *own[4:]) for own in served.reading.names().named.values()]
     return show_page("names", "Names", rows=sorted(rows, key=lambda row: (row[0], int(row[1]))), kinds=KINDS)
 
 
@@ -178,9 +176,7 @@ def find(served: Served) -> Any:
     rows = found(served) if flask.request.args and TYPED not in flask.request.args else None
     query = flask.request.query_string.decode("ascii", "replace")
     whole = with_due_day(served.reading.waits_until, 5)
-    return show_page(
-        "find", "Find", rows=rows, query=query, shown_row=lambda row: cells_of_log(whole(row))
-    )
+    return show_page("find", "Find", rows=rows, query=query, shown_row=lambda row: cells_of_log(whole(row)))
 
 
 def row_of_log(own: LogRow) -> tuple[Any, ...]:
@@ -235,11 +231,9 @@ def download(content: bytes, kind: str, name: str) -> Response:
 def journal(served: Served) -> Any:
     """The page of what was done in the folder, and changed by hand."""
     office = served.reading.office()
-    events = [(local(own.at), own.event, str(own.date), own.who, own.why) for own in reversed(office.journal.events)]
-    by_hand = [
-        (day, local(own.part.at), own.part.who, own.part.name, item_in_words(own))
-        for day, own in listing.items_of(office)
-    ]
+    events = [(own.at, own.event, str(own.date), own.who, own.why) for own in reversed(office.journal.events)]
+    items = listing.items_of(office)
+    by_hand = [(day, own.part.at, own.part.who, own.part.name, item_in_words(own)) for day, own in items]
     gone = [(day, *row_of_taken(own)) for day, own in taken.of_all(office)]
     return show_page("journal", "Journal", events=events, by_hand=[*reversed(by_hand)], taken=[*reversed(gone)])
 

@@ -3,6 +3,7 @@ here writes into the folder."""
 import argparse
 import contextlib
 import datetime
+import functools
 import gc
 import threading
 import time
@@ -80,19 +81,14 @@ class Reading:
     def whole(self, work: Callable[[], T]) -> T:
         """Does some reading once more if somebody changed the folder meanwhile."""
         for _ in range(TIMES):
-            before = self.mark()
+            before = self.state()
             try:
                 return work()
             except (FileFault, OSError):
-                if before == self.mark() and not lock.is_held(self.path / lock.NAME):
+                if before == self.state() and not lock.is_held(self.path / lock.NAME):
                     raise
                 time.sleep(PAUSE)
         return work()
-
-    def mark(self) -> tuple[int, ...]:
-        """When the two journals were changed last."""
-        paths = [self.path / name for name in ("journal.csv", "next/journal.csv")]
-        return tuple(path.stat().st_mtime_ns if path.exists() else 0 for path in paths)
 
     def once(self, key: object, state: str, work: Callable[[], T]) -> T:
         """What was worked out in this state of the folder: once, also if several ask at a time."""
@@ -125,18 +121,14 @@ class Reading:
 
     # Settled days.
 
-    def event(self, date: datetime.date | None = None) -> Event | None:
-        """The line of a settled day, of the last one if none is named; None, if there is none."""
-        filed = self.office().journal.filed()
-        return next((event for event in reversed(filed) if date in (None, event.date)), None)
-
     def settled(self, date: datetime.date | None = None) -> DeskSettled | None:
         """A settled day, or the last one; None if there is none."""
-        found = self.event(date)
-        if found is None:
+        office = self.office()
+        event = office.journal.day_of(date) if date else office.last()
+        if event is None:
             return None
-        event, state = found, f"{found.line} {looks_of(self.path / LABELS)}"
-        return self.once(("settled", event.date), state, lambda: read_settled(self.office(), event))
+        state = f"{event.line} {looks_of(self.path / LABELS)}"
+        return self.once(("settled", event.date), state, functools.partial(read_settled, office, event))
 
     def waits_until(self, date: datetime.date, record: int) -> str:
         """Until when an instruction waits that was not due on a settled day: the next day's file of what waits says

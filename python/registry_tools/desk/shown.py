@@ -70,7 +70,7 @@ def outcome(own: trial.Looked) -> object:
 def row_of_taken(own: taken.TakenBack) -> tuple[object, ...]:
     """What was taken back: its place, what it was or, behind the close, its file, who did it, when and why."""
     what = item_in_words(own.item) if own.item else f"a row of {own.part.name}" if own.part else ""
-    return own.taken.place, what, own.taken.who, words.local(own.taken.at), own.taken.why
+    return own.taken.place, what, own.taken.who, own.taken.at, own.taken.why
 
 
 def with_due_day(until: Until, place: int) -> Callable[[Sequence[Any]], Sequence[Any]]:
