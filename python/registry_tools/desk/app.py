@@ -49,7 +49,6 @@ POST: dict[str, Callable[..., Any]] = {
 }  # fmt: skip
 # What somebody may begin who changes nothing.
 OF_LOOKING = {"/name", "/audit/begin", "/send/begin"}
-ONLY_LOOKS = "This desk shows all, and changes nothing."
 
 
 class Request(flask.Request):
@@ -71,7 +70,6 @@ def make(served: Served) -> flask.Flask:
     )  # fmt: skip
     # (the gate stands before all pages, also those that are not there)
     app.before_request(functools.partial(gate.let_in, served))
-    app.before_request(functools.partial(look_at_state, served))
     app.after_request(gate.with_headers)
     for fault in (FileFault, WordsFault, OSError, HTTPException):
         app.register_error_handler(fault, functools.partial(failed, served))
@@ -86,21 +84,18 @@ def make(served: Served) -> flask.Flask:
     return app
 
 
-def look_at_state(served: Served) -> None:
-    """Keeps what a change of this page builds on, before anything is read: if somebody changes the folder meanwhile,
-    the form is refused."""
-    flask.g.state = served.reading.state()
-
-
 def shown_now(served: Served, view: Callable[..., Any], **more: Any) -> Any:
     """What a view shows of the folder as it is at one moment."""
+    # (what a change of this page builds on is kept before anything is read)
+    flask.g.state = served.reading.state()
     return served.reading.whole(functools.partial(view, served, **more))
 
 
 def changed(served: Served, view: Callable[..., Any]) -> Any:
     """What a form does that changes something; a desk that only looks refuses it."""
     if served.is_look and flask.request.path not in OF_LOOKING:
-        return gate.said(403, ONLY_LOOKS)
+        return gate.said(403, "This desk shows all, and changes nothing.")
+    flask.g.state = served.reading.state()
     return view(served)
 
 

@@ -109,8 +109,7 @@ def table_of_instruction(said: Said) -> str:
 
 
 def rows_of_typed(table: str) -> bytes:
-    """The rows of a table that was typed, of which no table is kept; one with something wrong as it is, so that it is
-    told."""
+    """The rows of a table that was typed; one with something wrong as it is, so that it is told."""
     content = table.encode("utf-8", "replace")
     made = importing.imported(read_content("typed", content), False, None)
     return content if made.wrong else text_of_rows(made.rows)

@@ -170,8 +170,7 @@ class Jobs:
         shutil.rmtree(self.private / name, ignore_errors=True)
 
     def place_for(self, folder: Path, name: str) -> Path:
-        """Where an upload with this name lies: messages and the journal say the name, so it is kept as far as it is one
-        of a file."""
+        """Where an upload with this name lies: the name is kept, since it is told, as far as it is one of a file."""
         plain = "".join(" " if letter in "/\\" or not letter.isprintable() else letter for letter in name)
         plain = plain.strip(" .")[-LONGEST_NAME:].strip(" .") or "file"
         names = self.uploads[folder.name]
