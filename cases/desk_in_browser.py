@@ -24,7 +24,7 @@ MOST_SECONDS, TIMES = 240, 5
 # The pages that are looked at in windows of several widths, and on paper.
 LOOKED_AT = (
     "/", "/hand-in?act=transfer", "/hand-in?act=distribute", "/next", "/change?account=100377", "/change?of=rules",
-    "/close", "/days", "/days/2025-09-22", "/accounts", "/accounts/100377?history=1",
+    "/close", "/days", "/undo", "/release", "/names", "/days/2025-09-22", "/accounts", "/accounts/100377?history=1",
     "/compliance?deadline=2025-09-30", "/month?deadline=2025-09-30", "/find?account=100377", "/journal", "/audit",
     "/send",
 )  # fmt: skip
@@ -169,14 +169,14 @@ def week(ana: Visitor) -> Iterator[tuple[str, object]]:
     yield "for Thursday", hand_in(ana, "thursday-do.csv")
     yield "a file that comes twice", hand_in(ana, "thursday-do.csv", has="It cannot be taken as it is")
     yield "Thursday", close(ana, "2025-09-25")
-    ana.open("/days")
+    ana.open("/undo")
     ana.fill("why", "looked at once more")
-    yield "Thursday is undone", told(ana.press("Undo"), "2025-09-25 is undone")
+    yield "Thursday is undone", told(ana.press("Yes, undo Thursday"), "2025-09-25 is undone")
     yield "Thursday again", close(ana, "2025-09-25")
-    ana.open("/days")
-    why = "document.querySelector('[action=\"/days/release\"] [name=why]').value = 'the statements were sent'"
-    ana.browser.value(why)
-    yield "Thursday is released", told(ana.press("Release"), "2025-09-25 is released")
+    ana.open("/release")
+    ana.fill("why", "the statements were sent")
+    ana.check("yes")
+    yield "Thursday is released", told(ana.press("Yes, release Thursday"), "2025-09-25 is released")
     yield "for Friday", hand_in(ana, "friday-do.csv")
     yield from by_hand(ana)
     yield "Friday", close(ana, "2025-09-26")

@@ -10,7 +10,7 @@ import os
 import re
 from dataclasses import dataclass, field
 from pathlib import Path
-from typing import Any
+from typing import Any, cast
 
 from harness import Said
 from reread import FORBIDDEN, Attributes, Page, named
@@ -168,7 +168,7 @@ def at_once(line: list[str], folder: Path, out: Path) -> Started:
         gc.enable()
     (out / "stdout").write_text(said.output, "utf-8", "replace")
     (out / "stderr").write_text(said.errors, "utf-8", "replace")
-    return Done(said.status)
+    return cast(Started, Done(said.status))
 
 
 class Desk:

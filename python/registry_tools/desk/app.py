@@ -49,7 +49,6 @@ POST: dict[str, Callable[..., Any]] = {
 }  # fmt: skip
 # What somebody may begin who changes nothing.
 OF_LOOKING = {"/name", "/audit/begin", "/send/begin"}
-ONLY_LOOKS = "This desk shows all, and changes nothing."
 
 
 class Request(flask.Request):
@@ -66,11 +65,11 @@ def make(served: Served) -> flask.Flask:
     app.config.update(
         PATHS=(str(served.path), str(served.jobs.private)), SECRET_KEY=secrets.token_bytes(32),
         MAX_CONTENT_LENGTH=MOST_BYTES, MAX_FORM_MEMORY_SIZE=MOST_FORM,
-        SESSION_COOKIE_NAME=f"desk-{served.host.rpartition(':')[2]}", SESSION_COOKIE_HTTPONLY=True, SESSION_COOKIE_SAMESITE="Strict",
+        SESSION_COOKIE_NAME=f"desk-{served.host.rpartition(':')[2]}", SESSION_COOKIE_HTTPONLY=True,
+        SESSION_COOKIE_SAMESITE="Strict",
     )  # fmt: skip
     # (the gate stands before all pages, also those that are not there)
     app.before_request(functools.partial(gate.let_in, served))
-    app.before_request(functools.partial(look_at_state, served))
     app.after_request(gate.with_headers)
     for fault in (FileFault, WordsFault, OSError, HTTPException):
         app.register_error_handler(fault, functools.partial(failed, served))
@@ -85,21 +84,18 @@ def make(served: Served) -> flask.Flask:
     return app
 
 
-def look_at_state(served: Served) -> None:
-    """Keeps what a change of this page builds on, before anything is read: if somebody changes the folder meanwhile,
-    the form is refused."""
-    flask.g.state = served.reading.state()
-
-
 def shown_now(served: Served, view: Callable[..., Any], **more: Any) -> Any:
     """What a view shows of the folder as it is at one moment."""
+    # (what a change of this page builds on is kept before anything is read)
+    flask.g.state = served.reading.state()
     return served.reading.whole(functools.partial(view, served, **more))
 
 
 def changed(served: Served, view: Callable[..., Any]) -> Any:
     """What a form does that changes something; a desk that only looks refuses it."""
     if served.is_look and flask.request.path not in OF_LOOKING:
-        return gate.said(403, ONLY_LOOKS)
+        return gate.said(403, "This desk shows all, and changes nothing.")
+    flask.g.state = served.reading.state()
     return view(served)
 
 
@@ -126,11 +122,10 @@ def dress(app: flask.Flask, served: Served) -> None:
         token=lambda: flask.session["token"], once=lambda: secrets.token_hex(8), state=lambda: flask.g.state,
         who=lambda: gate.known_name(served), says_name=not served.who and not served.header,
         has_leftovers=served.reading.has_leftovers, apart=beside.apart,
-        table=shown.sorted_table, acts=faults.ACT_WORDS, lag_words=words.LAGS,
-        meaning=lambda name: checks()[name].meaning,
+        table=shown.sorted_table, acts=faults.ACT_WORDS, meaning=lambda name: checks()[name].meaning,
     )  # fmt: skip
     app.jinja_env.filters.update(
-        grouped=grouped, local=words.local, label=words.label, date=long_date,
+        grouped=grouped, label=words.label, date=long_date,
         called=lambda word: long_date(word) if isinstance(word, datetime.date) else beside.called(word),
     )
     app.jinja_env.trim_blocks = app.jinja_env.lstrip_blocks = True

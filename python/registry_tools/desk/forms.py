@@ -59,6 +59,15 @@ def accounts_offered(own: Reading) -> list[tuple[int, str]]:
     ]
 
 
+RIGHT_OF_NEW = Field("new_right", "who may", "both", RIGHTS)
+# What is asked for of a new account.
+OF_NEW = [
+    Field("number_of_account", "Number of the new account", more=NEEDED),
+    Field("kind", "Kind", "trading", faults.ACCOUNT_KINDS), Field("holder", "Holder", more=NEEDED),
+    Field("new_user", "Its first user, if it has one"), RIGHT_OF_NEW,
+]  # fmt: skip
+
+
 # One instruction.
 
 
@@ -100,8 +109,7 @@ def table_of_instruction(said: Said) -> str:
 
 
 def rows_of_typed(table: str) -> bytes:
-    """The rows of a table that was typed, of which no table is kept; one with something wrong as it is, so that it is
-    told."""
+    """The rows of a table that was typed; one with something wrong as it is, so that it is told."""
     content = table.encode("utf-8", "replace")
     made = importing.imported(read_content("typed", content), False, None)
     return content if made.wrong else text_of_rows(made.rows)
@@ -120,7 +128,8 @@ def account_fields(block: Block, periods: int) -> Iterator[Field]:
         options = [KEEP, *(other for other in RIGHTS if other != right), DROP]
         words = f"--user=+{user}:{{}}", f"--user=-{user}"
         yield Field(f"user-{user}", f"User {user} may {called(right)}", KEEP, options, *words)
-    yield from new_user("One more user")
+    yield Field("new_user", "One more user")
+    yield RIGHT_OF_NEW
     corrections = {"1": row[7], **{own[1]: own[2] for own in lists if own[0] == "correction"}}
     for period in map(str, range(1, periods + 1)):
         said, word = f"Correction factor of period {period}", f"--correction={period}:{{}}"
@@ -128,20 +137,6 @@ def account_fields(block: Block, periods: int) -> Iterator[Field]:
     for tag, year, value in (own[:3] for own in lists if own[0] in OTHER_ROWS):
         said = f"{tag.capitalize()} of {year}: {grouped(value)}"
         yield Field(f"{tag}-{year}", said, KEEP, [KEEP, DROP], drop=f"--leave-out={tag}:{year}")
-
-
-def new_user(words: str) -> Iterator[Field]:
-    """What is asked for of one more user."""
-    yield Field("new_user", words)
-    yield Field("new_right", "who may", "both", RIGHTS)
-
-
-def new_fields() -> Iterator[Field]:
-    """What is asked for of a new account."""
-    yield Field("number_of_account", "Number of the new account", more=NEEDED)
-    yield Field("kind", "Kind", "trading", faults.ACCOUNT_KINDS)
-    yield Field("holder", "Holder", more=NEEDED)
-    yield from new_user("Its first user, if it has one")
 
 
 def rule_fields(day: DayText) -> Iterator[Field]:

@@ -26,12 +26,6 @@ HEADERS = {
     "Cache-Control": "no-store", "Cross-Origin-Opener-Policy": "same-origin",
     "Cross-Origin-Resource-Policy": "same-origin",
 }  # fmt: skip
-OTHER_ADDRESS = "This is another address than that of the desk."
-OTHER_SECRET = "The link has another secret: the desk prints a new one each time it is started."
-NOT_IN = "Open the link that the desk printed at its start. If you were in already, go on to this page:"
-OTHER_FORM = "The form is not of this desk, or it was started anew since. Nothing was done: look once more."
-NO_METHOD = "That is no method of this desk."
-NO_NAME = "The proxy before this desk has to say who you are, and it does not."
 LONGEST_NAME = 80
 
 
@@ -52,25 +46,27 @@ def let_in(served: Served) -> Any:
     """Answers nothing to who may go on, or why not."""
     request = flask.request
     if request.headers.get("Host") != served.host:
-        return said(400, OTHER_ADDRESS)
+        return said(400, "This is another address than that of the desk.")
     key = request.args.get("key")
     if key is not None and request.method == "GET" and request.path == "/":
         return enter(served, key)
     if "token" not in flask.session:
-        return said(403, NOT_IN, is_again=True)
+        text = "Open the link that the desk printed at its start. If you were in already, go on to this page:"
+        return said(403, text, is_again=True)
     if served.header is not None and not name_of_proxy(served):
-        return said(403, NO_NAME)
+        return said(403, "The proxy before this desk has to say who you are, and it does not.")
     if request.method == "POST":
         token = request.form.get("token", "").encode("utf-8", "replace")
+        other = "The form is not of this desk, or it was started anew since. Nothing was done: look once more."
         is_own = hmac.compare_digest(token, flask.session["token"].encode())
-        return None if is_own else said(403, OTHER_FORM)
-    return None if request.method in ("GET", "HEAD") else said(405, NO_METHOD)
+        return None if is_own else said(403, other)
+    return None if request.method in ("GET", "HEAD") else said(405, "That is no method of this desk.")
 
 
 def enter(served: Served, key: str) -> Any:
     """Lets a browser in that has the secret of the link."""
     if not hmac.compare_digest(key.encode("utf-8", "replace"), served.key.encode()):
-        return said(403, OTHER_SECRET)
+        return said(403, "The link has another secret: the desk prints a new one each time it is started.")
     flask.session.clear()
     flask.session["token"] = secrets.token_urlsafe(16)
     # (a redirect of a link that was opened elsewhere would not take the strict cookie with it: a page does)

@@ -15,7 +15,7 @@ import threading
 import time
 from dataclasses import dataclass, field
 from pathlib import Path
-from typing import Callable, Iterator, Protocol
+from typing import Callable, Iterator
 
 from registry_tools.errors import FOUND, WordsFault
 from registry_tools.office.approvals import ASKED_FOR
@@ -39,16 +39,7 @@ FINDING = ("hand-in", "audit", "try", "status")
 NOTHING = "Nothing was done."
 
 
-class Started(Protocol):
-    """A process, as far as it is asked here."""
-
-    pid: int
-
-    def poll(self) -> int | None:
-        """The exit status; None while it runs."""
-
-    def wait(self, timeout: float | None = None) -> int:
-        """Waits until it ends, and answers the exit status."""
+Started = subprocess.Popen[bytes]
 
 
 @dataclass
@@ -128,9 +119,7 @@ class Jobs:
         # The names of uploads in the order in which they came: it decides who is first.
         self.uploads: dict[str, list[str]] = {}
 
-    def start(
-        self, number: str, command: str, words: list[str], seen: str, back: str, upload: str, makes: bool
-    ) -> Job:
+    def start(self, number: str, command: str, words: list[str], seen: str, back: str, upload: str, makes: bool) -> Job:
         """Starts a command, or gives the one that this form has started. It works in the folder of an upload, whose
         files it names, or in its own; and a command that makes a folder is told one of its own."""
         with self.lock:
@@ -181,8 +170,7 @@ class Jobs:
         shutil.rmtree(self.private / name, ignore_errors=True)
 
     def place_for(self, folder: Path, name: str) -> Path:
-        """Where an upload with this name lies: messages and the journal say the name, so it is kept as far as it is one
-        of a file."""
+        """Where an upload with this name lies: the name is kept, since it is told, as far as it is one of a file."""
         plain = "".join(" " if letter in "/\\" or not letter.isprintable() else letter for letter in name)
         plain = plain.strip(" .")[-LONGEST_NAME:].strip(" .") or "file"
         names = self.uploads[folder.name]

@@ -58,8 +58,7 @@ def copy_of_next(own: Reading) -> Iterator[tuple[Office, handed.HandedIn]]:
 
 
 def look_at_incoming(own: Reading, paths: list[Path], again: list[tuple[int, int]], dates: str = "") -> Look:
-    """What would come of files, if they were handed in; with the rows, by file and line, that are meant once more, and
-    with how tables write dates."""
+    """What would come of files, with the rows, by file and line, that are meant once more."""
     words, forms = [f"{paths[place]}:{line}" for place, line in again], Forms(dates=dates or None)
     try:
         with copy_of_next(own) as (office, there):
@@ -86,8 +85,7 @@ def look_at_change(own: Reading, asked: list[str]) -> change.Difference:
 
 
 def look_at_undo(own: Reading, last: Event, date: datetime.date) -> tuple[Rows, Rows]:
-    """What would be handed in again, and what would wait again, if the last day was taken back for this day or a later
-    one."""
+    """What would be handed in again, and what would wait again, if the last day was taken back for this day."""
     with tempfile.TemporaryDirectory(dir=own.private) as place:
         there, _ = undo.put_again(own.office(), last, date, Path(place), last.line)
         rows: Rows = [(i.place, item_in_words(i), i.part.name, i.part.who) for i in there.items(*handed.KINDS)]
@@ -97,8 +95,7 @@ def look_at_undo(own: Reading, last: Event, date: datetime.date) -> tuple[Rows, 
 
 
 def look_at_names(own: Reading, asked: list[str]) -> tuple[Rows, list[str]]:
-    """What names would be new, each with what it was, and what may be a slip. Raises WordsFault or FileFault as the
-    command does."""
+    """What names would be new, with what they were, and what may be a slip. Raises what the command does."""
     parser = TellingWords()
     labelling.add_words(parser)
     said, before = parser.parse_args(asked), own.names()

@@ -10,7 +10,6 @@ from registry_tools.desk import forms, gate, looks, shown
 from registry_tools.desk.gate import Served
 from registry_tools.desk.reading import Reading
 from registry_tools.desk.shown import asked, number_asked, row_of_taken, show_page, sorted_table
-from registry_tools.desk.words import local
 from registry_tools.errors import FileFault, WordsFault
 from registry_tools.notes import LOOK
 from registry_tools.office import approvals, awaited, handed, release as releasing, taken, undo as undoing
@@ -22,7 +21,7 @@ from registry_tools.pages.beside import item_in_words
 from registry_tools.pages.html import Markup, link, paragraph, tag
 from registry_tools.pages.plan import plan_parts
 from registry_tools.pages.settled import (
-    OUTCOMES, WAITS, Settled, by_hand_parts, kind_of, long_date, outcome_in_words, record_in_words,
+    OUTCOMES, Settled, by_hand_parts, kind_of, long_date, outcome_in_words, record_in_words,
 )  # fmt: skip
 from registry_tools.questions import due
 from registry_tools.second import faults, rules
@@ -36,6 +35,7 @@ WAITING = ["Due", "Record", "Instruction"]
 # What there are empty tables of; and how the last day of a year may be written in a spreadsheet.
 EMPTY = [own for own in form.WHAT if own != form.LABELS]
 DATES = ["", "31.12.2026", "31/12/2026", "12/31/2026"]
+SECOND = "by the second answer alone: then nothing is proved"
 # So many dates are told that come next.
 MOST_COMING = 5
 RELEASED = (
@@ -50,7 +50,7 @@ def today(served: Served) -> Any:
     office = own.office()
     handed_in, last = office.handed_in(), office.last()
     items = [
-        (item.place, item_in_words(item), item.part.name, item.part.who, local(item.part.at))
+        (item.place, item_in_words(item), item.part.name, item.part.who, item.part.at)
         for item in handed_in.items(*handed.KINDS)
     ]
     waits = [
@@ -128,14 +128,14 @@ def change(served: Served) -> Any:
     """The form of an account, of the rules, or of a new account. Raises WordsFault if there is no such account."""
     number, own = number_asked("account"), served.reading
     of = asked("of") if asked("of") in ("rules", "new") and number is None else "account"
-    if own.event() is None:
+    if own.office().last() is None:
         raise WordsFault("no day is settled yet: another first text stands in place of a change")
     day = own.text_of_next()
     if number is not None and number not in day.book:
         raise WordsFault(f"there is no account {number} in the next day's text")
-    fields = forms.rule_fields(day) if of == "rules" else forms.new_fields()
+    fields = [*forms.rule_fields(day)] if of == "rules" else forms.OF_NEW
     if number is not None:
-        fields = forms.account_fields(day.book[number], len(day.head.periods))
+        fields = [*forms.account_fields(day.book[number], len(day.head.periods))]
     known = forms.accounts_offered(own) if of == "account" and number is None else []
     return show_page("change", "Change", account=number, of=of, date=day.head.date, fields=fields, known=known)
 
@@ -144,6 +144,7 @@ def close(served: Served) -> Any:
     """The page that asks whether the next day is settled."""
     own, why, outcome_of = served.reading, "", None
     dates, settler = own.dates(), settler_in_words(own.office().settings.program)
+    engines = [("", f"by {settler}, and compared with the second answer")] if settler else []
     date = asked("other") or asked("date") or str(dates[0])
     try:
         outcome_of, left = own.closing(date)
@@ -153,9 +154,9 @@ def close(served: Served) -> Any:
     return show_page(
         "close", "Close", date=date, dates=dates, why=why, own=outcome_of,
         notes=[note for note in notes if not note.startswith(LOOK)],
-        alerts=[note.removeprefix(f"{LOOK}: ") for note in notes if note.startswith(LOOK)], unsaid=asked("unsaid"),
-        totals=totals_of(outcome_of.before, outcome_of.after) if outcome_of else "", settler=settler,
-        asks_second=settler in ("", BY_RUN),
+        alerts=[note.removeprefix(f"{LOOK}: ") for note in notes if note.startswith(LOOK)],
+        totals=totals_of(outcome_of.before, outcome_of.after) if outcome_of else "",
+        engines=[*engines, ("1", SECOND)], engine="1" if settler in ("", BY_RUN) else "",
     )  # fmt: skip
 
 
@@ -174,10 +175,9 @@ def totals_of(before: Mapping[str, Sums], after: Mapping[str, Sums]) -> Markup:
 
 
 def day_rows(served: Served) -> list[tuple[Any, ...]]:
-    """All settled days, the last one first: who settled each when, how many records it has, by what, and whether it is
-    released."""
+    """All settled days, the last one first."""
     told = releasing.days_told(served.reading.office())
-    return [(str(own.date), own.who, local(own.at), own.next - own.first, *more) for own, *more in told]
+    return [(str(own.date), own.who, own.at, own.next - own.first, *more) for own, *more in told]
 
 
 def days(served: Served) -> Any:
@@ -191,11 +191,11 @@ DAYS = ["Day", "Who", "At", "Records", "Settled by", "Released"]
 
 
 def undo(served: Served) -> Any:
-    """The page that asks whether the last day is taken back: what goes, and what is handed in and waits again. Raises
-    WordsFault if it can't be."""
+    """The page that asks whether the last day is taken back, and says what that does. WordsFault if it can't be."""
     own = served.reading
-    office, event = own.office(), own.event()
-    last = undoing.last_of(office, str(event.date) if event else None)
+    office = own.office()
+    there = office.last()
+    last = undoing.last_of(office, str(there.date) if there else None)
     date, settled = undoing.date_again(asked("date") or None, office, last), own.settled(last.date)
     assert settled is not None  # (it is the last day)
     again, waits = own.of_next("undo", date, lambda: looks.look_at_undo(own, last, date))
@@ -217,10 +217,9 @@ def undo(served: Served) -> Any:
 
 
 def release(served: Served) -> Any:
-    """The page that asks whether a day is released: which days it touches, and what that means. Raises WordsFault if it
-    is released already, or is no settled day."""
+    """The page that asks whether a day is released, and says what that means. WordsFault if it can't be."""
     office, rows = served.reading.office(), [row for row in day_rows(served) if row[-1] == "no"]
-    last, doubt = office.last(), ""
+    last = office.last()
     day = releasing.day_to_release(office, asked("day") or (str(last.date) if last else None))
     touched, said = [row for row in rows if row[0] <= str(day.date)], long_date(day.date)
     doubt = releasing.doubt_of(day)
@@ -245,7 +244,7 @@ def day(served: Served, word: str) -> Any:
     count, accounts_of = Counter(kind for row in settled.log for kind in ("", kind_of(row))), settled.accounts_of
 
     def cells(row: Sequence[Any]) -> Sequence[Any]:
-        return *row[:2], accounts_of(row[4]), own.waits_until(date, row[0]) if row[3] == WAITS else row[3]
+        return *row[:2], accounts_of(row[4]), own.outcome(word, row[0], row[3])
 
     counts = {kind: count[kind] for kind in ("", *OUTCOMES)}
     return show_page(

@@ -105,12 +105,11 @@ def look(served: Served) -> Any:
     if own.meant:
         again.append(own.meant)
     return show_page(
-        "look", "A look before it is handed in", own=own, place=place, dates=dates, whys=whys(own.looked),
-        again=[("again", f"{file}:{line}") for file, line in again], back=address_of("/hand-in", {**typed}),
+        "look", "A look before it is handed in", own=own, whys=whys(own.looked), back=address_of("/hand-in", {**typed}),
+        of_upload=[("place", place), ("dates", dates), *(("again", f"{file}:{line}") for file, line in again)],
         counts=[(i.name, f"{handed.NAMES[i.kind]} {i.count}") for i in own.added.parts] if own.added else [],
-        names=[path.name for path in paths],
         rows=[(tried.place, tried.words, tried.said(), tried) for tried in own.looked],
-        shown_row=lambda row: (row[0], row[1], outcome(row[3])),
+        shown_row=lambda row: (row[0], row[1], outcome(row[3])), names=[path.name for path in paths],
     )  # fmt: skip
 
 
@@ -200,8 +199,6 @@ def give_names(served: Served) -> Any:
 
 def settle(served: Served) -> Any:
     """Has the next day settled and filed. What is to be looked at first wants a yes of its own."""
-    if form("doubts") and not form("yes"):
-        return flask.redirect(address_of("/close", {"date": form("date"), "unsaid": 1}), 303)
     words = [f"--{name}" for name in ("second", "yes") if form(name)]
     return do(served, "close", f"--date={form('date')}", *words)
 

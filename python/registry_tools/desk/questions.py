@@ -13,8 +13,9 @@ from werkzeug.wrappers import Response
 from registry_tools.calendars.dates import date_of
 from registry_tools.calendars.due_days import NOT_DUE
 from registry_tools.desk.gate import Served
-from registry_tools.desk.shown import TYPED, asked, number_asked, row_of_taken, show_page, with_due_day
-from registry_tools.desk.words import PAGES, local
+from registry_tools.desk.reading import Reading
+from registry_tools.desk.shown import TYPED, asked, number_asked, row_of_taken, show_page
+from registry_tools.desk.words import PAGES
 from registry_tools.errors import WordsFault
 from registry_tools.notes import BY_HAND
 from registry_tools.office import taken
@@ -37,10 +38,8 @@ from registry_tools.texts.report import LogRow
 
 WORKBOOK = "application/vnd.openxmlformats-officedocument.spreadsheetml.sheet"
 # Where somebody goes on behind a command.
-BEHIND = {
-    "hand-in": ("/next", "To the next day"), "change": ("/next", "To the next day"),
-    "take-back": ("/next", "To the next day"), "label": ("/names", "To the names"),
-}  # fmt: skip
+BEHIND = dict.fromkeys(("hand-in", "change", "take-back"), ("/next", "To the next day"))
+BEHIND["label"] = ("/names", "To the names")
 
 # Accounts.
 
@@ -53,8 +52,7 @@ def accounts(served: Served) -> Any:
 
 
 def account_rows(settled: Settled, word: str) -> Iterator[tuple[Any, ...]]:
-    """Number, kind, holder, status, what they hold and the name, of the accounts that have the word as one of them, or
-    in the name of the account or of the holder."""
+    """What is shown of the accounts that have the word as their number, kind, holder or status, or in a name."""
     for block in settled.report.book.values():
         row = block.rows[0].split(",")
         holder, own = settled.names.holder(row[3]), settled.names.name_of(ACCOUNT, row[1])
@@ -74,9 +72,12 @@ def account(served: Served, number: int) -> Any:
     parts = served.reading.account(number)
     if parts is None:
         raise NotFound
-    history = [*map(row_of_history, served.reading.history(number))] if asked("history") else None
-    shown = with_due_day(served.reading.waits_until, 3)
-    return show_page("account", f"Account {number}", own=parts, number=number, history=history, shown_row=shown)
+    own = served.reading
+    return show_page(
+        "account", f"Account {number}", own=parts, number=number,
+        history=[*map(row_of_history, own.history(number))] if asked("history") else None,
+        shown_row=lambda row: (*row[:3], own.outcome(str(row[0]), row[1], row[3]), *row[4:]),
+    )  # fmt: skip
 
 
 def row_of_history(row: Sequence[Any]) -> Sequence[Any]:
@@ -92,7 +93,7 @@ def row_of_history(row: Sequence[Any]) -> Sequence[Any]:
 
 def names(served: Served) -> Any:
     """The page of the names of users, holders and accounts."""
-    rows = [(*own[:3], local(own.at), *own[4:]) for own in served.reading.names().named.values()]
+    rows = [(*own[:3], own.at, *own[4:]) for own in served.reading.names().named.values()]
     return show_page("names", "Names", rows=sorted(rows, key=lambda row: (row[0], int(row[1]))), kinds=KINDS)
 
 
@@ -107,20 +108,15 @@ def compliance(served: Served) -> Any:
     year = number_asked("year") or answers.last_year_over(settled.head)
     word = asked("deadline")
     deadline = date_of("the deadline", word) if word else served.reading.office().settings.due.surrender_of(year)
-    rows = standings_of(served, settled, year)
+    state, key = served.reading.office().journal.last_line, ("standings", year)
+    standings = answers.standings(settled.day, settled.report, year)
+    rows = served.reading.once(key, state, lambda: sorted(standings, key=standing.order))
     return show_page(
         "compliance", f"Compliance for {year}", year=year, rows=[*map(row_of_standing, rows)], columns=COLUMNS,
         counts=standing.counts_table(rows) if rows else "", until=month.until_in_words(settled.head.date, deadline),
         missing=sum(own.missing or 0 for own in rows), date=settled.head.date,
         shown_row=lambda row: cells_of_standing(settled, row[-1]),
     )  # fmt: skip
-
-
-def standings_of(served: Served, settled: Settled, year: int) -> list[answers.Standing]:
-    """How operators stand after the last day, those first of whom most is missing."""
-    standings = answers.standings(settled.day, settled.report, year)
-    own = served.reading
-    return own.once(("standings", year), own.office().journal.last_line, lambda: sorted(standings, key=standing.order))
 
 
 COLUMNS = ["Account", "Holder", "Surrendered", "Emissions", "Surrendered of emissions", "Figure now", "Verdict"]
@@ -177,10 +173,7 @@ def find(served: Served) -> Any:
     """The page of log rows over all days."""
     rows = found(served) if flask.request.args and TYPED not in flask.request.args else None
     query = flask.request.query_string.decode("ascii", "replace")
-    whole = with_due_day(served.reading.waits_until, 5)
-    return show_page(
-        "find", "Find", rows=rows, query=query, shown_row=lambda row: cells_of_log(whole(row))
-    )
+    return show_page("find", "Find", rows=rows, query=query, shown_row=lambda row: cells_of_log(served.reading, row))
 
 
 def row_of_log(own: LogRow) -> tuple[Any, ...]:
@@ -191,11 +184,11 @@ def row_of_log(own: LogRow) -> tuple[Any, ...]:
     return str(own.date), own.record, record_in_words(own), named, by, outcome_in_words(own)
 
 
-def cells_of_log(row: Sequence[Any]) -> Sequence[Any]:
+def cells_of_log(own: Reading, row: Sequence[Any]) -> Sequence[Any]:
     """The cells of a log row, its day and its accounts with links."""
     day, record, said, named, by, outcome = row
-    accounts = Markup(", ".join(f'<a href="/accounts/{own}">{own}</a>' for own in named.split(", ") if own))
-    return link(f"/days/{day}", day), record, said, accounts, by, outcome
+    accounts = Markup(", ".join(link(f"/accounts/{number}", number) for number in named.split(", ") if number))
+    return link(f"/days/{day}", day), record, said, accounts, by, own.outcome(day, record, outcome)
 
 
 def find_file(served: Served, kind: str) -> Response:
@@ -235,11 +228,9 @@ def download(content: bytes, kind: str, name: str) -> Response:
 def journal(served: Served) -> Any:
     """The page of what was done in the folder, and changed by hand."""
     office = served.reading.office()
-    events = [(local(own.at), own.event, str(own.date), own.who, own.why) for own in reversed(office.journal.events)]
-    by_hand = [
-        (day, local(own.part.at), own.part.who, own.part.name, item_in_words(own))
-        for day, own in listing.items_of(office)
-    ]
+    events = [(own.at, own.event, str(own.date), own.who, own.why) for own in reversed(office.journal.events)]
+    items = listing.items_of(office)
+    by_hand = [(day, own.part.at, own.part.who, own.part.name, item_in_words(own)) for day, own in items]
     gone = [(day, *row_of_taken(own)) for day, own in taken.of_all(office)]
     return show_page("journal", "Journal", events=events, by_hand=[*reversed(by_hand)], taken=[*reversed(gone)])
 

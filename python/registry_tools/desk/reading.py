@@ -3,6 +3,7 @@ here writes into the folder."""
 import argparse
 import contextlib
 import datetime
+import functools
 import gc
 import threading
 import time
@@ -11,6 +12,7 @@ from dataclasses import replace
 from pathlib import Path
 from typing import Any, Callable, TypeVar
 
+from registry_tools.calendars.dates import date_of
 from registry_tools.errors import FileFault, WordsFault
 from registry_tools.office import close, composing, folder, handed, labels, lock, past, prepared, trial
 from registry_tools.office.composing import NextDay
@@ -22,7 +24,7 @@ from registry_tools.pages import indexed, month
 from registry_tools.pages.account import own_parts
 from registry_tools.pages.html import Frame, Markup, joined
 from registry_tools.pages.rulebook import Rulebook
-from registry_tools.pages.settled import ByHand, Settled, by_hand_before
+from registry_tools.pages.settled import WAITS, ByHand, Settled, by_hand_before
 from registry_tools.pages.statement import Statement
 from registry_tools.questions import find, history
 from registry_tools.texts.day_text import DayText
@@ -80,19 +82,14 @@ class Reading:
     def whole(self, work: Callable[[], T]) -> T:
         """Does some reading once more if somebody changed the folder meanwhile."""
         for _ in range(TIMES):
-            before = self.mark()
+            before = self.state()
             try:
                 return work()
             except (FileFault, OSError):
-                if before == self.mark() and not lock.is_held(self.path / lock.NAME):
+                if before == self.state() and not lock.is_held(self.path / lock.NAME):
                     raise
                 time.sleep(PAUSE)
         return work()
-
-    def mark(self) -> tuple[int, ...]:
-        """When the two journals were changed last."""
-        paths = [self.path / name for name in ("journal.csv", "next/journal.csv")]
-        return tuple(path.stat().st_mtime_ns if path.exists() else 0 for path in paths)
 
     def once(self, key: object, state: str, work: Callable[[], T]) -> T:
         """What was worked out in this state of the folder: once, also if several ask at a time."""
@@ -125,22 +122,17 @@ class Reading:
 
     # Settled days.
 
-    def event(self, date: datetime.date | None = None) -> Event | None:
-        """The line of a settled day, of the last one if none is named; None, if there is none."""
-        filed = self.office().journal.filed()
-        return next((event for event in reversed(filed) if date in (None, event.date)), None)
-
     def settled(self, date: datetime.date | None = None) -> DeskSettled | None:
         """A settled day, or the last one; None if there is none."""
-        found = self.event(date)
-        if found is None:
+        office = self.office()
+        event = office.journal.day_of(date) if date else office.last()
+        if event is None:
             return None
-        event, state = found, f"{found.line} {looks_of(self.path / LABELS)}"
-        return self.once(("settled", event.date), state, lambda: read_settled(self.office(), event))
+        state = f"{event.line} {looks_of(self.path / LABELS)}"
+        return self.once(("settled", event.date), state, functools.partial(read_settled, office, event))
 
     def waits_until(self, date: datetime.date, record: int) -> str:
-        """Until when an instruction waits that was not due on a settled day: the next day's file of what waits says
-        it, or that of the folder."""
+        """Until when an instruction of a day waits: the next day's file of what waits says it, or the folder's."""
         office = self.office()
         later = next((event for event in office.journal.filed() if event.date > date), None)
         path = past.as_filed(office, later, "waiting") if later else office.next_folder / handed.WAITS
@@ -148,6 +140,10 @@ class Reading:
         waits = self.once(("waits", date), state, lambda: [own for own, _ in read_pending(str(path)).rows])
         due = next((own.due or own.entered for own in waits if own.record == record), None)
         return f"waits until {due.day} {due:%B} {due.year}" if due else "waits: the calendar has no due day"
+
+    def outcome(self, day: str, record: int, outcome: str) -> str:
+        """What came of an instruction; of one that only waits, until when. (It is read: of rows that are shown.)"""
+        return self.waits_until(date_of("the day", day), record) if outcome == WAITS else outcome
 
     def by_hand(self, date: datetime.date) -> ByHand:
         """What people changed before a settled day."""
@@ -222,8 +218,7 @@ class Reading:
         return self.of_next("text", next_day.date, lambda: next_day.day(NEXT))
 
     def tried(self, word: str | None) -> tuple[NextDay, list[trial.Looked], list[str]]:
-        """The next day, what would come of each instruction, with what is new since the last look, and what the library
-        answers otherwise. The look is not kept."""
+        """The next day, what would come of each instruction, and what the library answers otherwise."""
         office, next_day = self.office(), self.next_day(word)
 
         def work() -> tuple[list[trial.Looked], list[str]]:

@@ -8,14 +8,11 @@ from typing import Any, Callable, Collection, Iterable, Sequence
 import flask
 from werkzeug.wrappers import Response
 
-from registry_tools.calendars.dates import date_of
 from registry_tools.desk import words
 from registry_tools.errors import WordsFault
 from registry_tools.office import taken, trial
 from registry_tools.pages.beside import item_in_words
 from registry_tools.pages.html import Markup, Table, joined, link, paragraph, tag, words_in_cell
-from registry_tools.pages.settled import WAITS
-from registry_tools.pages.statement import Until
 
 # The word of an address that only fills the form of a page with what was typed.
 TYPED = "typed"
@@ -70,18 +67,7 @@ def outcome(own: trial.Looked) -> object:
 def row_of_taken(own: taken.TakenBack) -> tuple[object, ...]:
     """What was taken back: its place, what it was or, behind the close, its file, who did it, when and why."""
     what = item_in_words(own.item) if own.item else f"a row of {own.part.name}" if own.part else ""
-    return own.taken.place, what, own.taken.who, words.local(own.taken.at), own.taken.why
-
-
-def with_due_day(until: Until, place: int) -> Callable[[Sequence[Any]], Sequence[Any]]:
-    """What shows the cells of log rows, which begin with day and record: where the outcome, at this place, is that it
-    only waits, until when. (`until` reads for it: only of the rows that are shown.)"""
-
-    def cells(row: Sequence[Any]) -> Sequence[Any]:
-        is_so = row[place] == WAITS
-        return (*row[:place], until(date_of("the day", row[0]), row[1]), *row[place + 1 :]) if is_so else row
-
-    return cells
+    return own.taken.place, what, own.taken.who, own.taken.at, own.taken.why
 
 
 # Tables.

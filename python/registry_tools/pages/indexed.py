@@ -48,9 +48,10 @@ def days_of(office: Office, number: int, most: int) -> list[IndexedDay]:
             is_named = number in rules.named(row.instruction)
             own = own_row_of(row, number, lambda other: users_on(database, other, row.date)) if is_named else None
             log[row.date] += [own] if own else []
+        days = ((date, next(before_day(known, date), None), own) for date, own in log.items())
         return [
-            IndexedDay(date, {number: own}, next(before_day(known, date), None), users_on(database, number, date))
-            for date, own in log.items()
+            IndexedDay(date, {number: own if held else []}, held, users_on(database, number, date))
+            for date, held, own in days
         ]
 
 
@@ -68,7 +69,8 @@ def openings(
     found = [(date, False, [*held]) for date, *held in database.execute(said, (number,))]
     for date, row in [*first, *rows_by_hand(database, number)]:
         found.append((date, True, [*map(int, row.split(",")[8:10])]))
-    return [(date, is_new, dict(zip(rules.KINDS, held))) for date, is_new, held in sorted(found, reverse=True)]
+    found.sort(key=lambda own: (own[0], not own[1]), reverse=True)
+    return [(date, is_new, dict(zip(rules.KINDS, held))) for date, is_new, held in found]
 
 
 def rows_by_hand(database: sqlite3.Connection, number: int) -> Iterator[tuple[str, str]]:
