@@ -14,7 +14,7 @@ use Rattle.reg_text.proofs.Names.{has_space, placed, with_row, next_draft, draft
 use Rattle.reg_text.specs.declared.cause.Cause.TheVariants as cause
 use Rattle.reg_text.specs.declared.reading.tag.Tag.TheVariants as tag
 use Rattle.reg_text.specs.Joining.{number_in, IsHeading, HasHeading, IsPart, AccountsMayFollow, joined_drafts}
-use Rattle.reg_text.proofs.Binds.{bind_ok, test_ok, unless_ok}
+use Rattle.reg_text.proofs.Binds.{bind_ok, test_ok, unless_ok, ok_is}
 use Rattle.reg_text.proofs.TagLaws.{stage-of, goes_on}
 use Rattle.reg_text.proofs.DraftSteps.{count-accounts, placed_ok}
 
