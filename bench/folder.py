@@ -20,6 +20,7 @@ import random
 import sys
 from collections.abc import Iterable, Iterator
 from concurrent.futures import Future, ThreadPoolExecutor
+from dataclasses import replace
 from pathlib import Path
 
 TOP = Path(__file__).resolve().parents[1]
@@ -245,7 +246,7 @@ class Maker:
         sums = {key: files.sum_of(content) for key, content in all_files.items()}
         closed, engine = f"{date}T17:00:00Z", settling.SECOND_ANSWER.row()
         event = journal.Event(journal.FILED, closed, closer, date, first, number, sums, "", before, engine=engine)
-        return event._replace(login=closer, approved=second, people=office.people.sum()) if second else event
+        return replace(event, login=closer, approved=second, people=office.people.sum()) if second else event
 
 
 def stored(key: str, content: bytes) -> bytes:

@@ -8,6 +8,7 @@ import pwd
 import shutil
 import stat
 import subprocess
+from dataclasses import replace
 from pathlib import Path
 from typing import Callable, Iterator
 from unittest import mock
@@ -325,7 +326,7 @@ def send_trials(work: Path) -> Iterator[Told]:
 def proved_as(office: Path) -> None:
     """Has the line of the first day say that a proved engine settled it."""
     there = journal.read(office / "journal.csv")
-    event = there.events[0]._replace(engine="program 1 0123456789ab proved")
+    event = replace(there.events[0], engine="program 1 0123456789ab proved")
     (office / "journal.csv").write_text(f"{journal.HEADING}\n{event.row()}\n")
     path = office / "next" / "journal.csv"
     path.write_text(f"base,{event.line}\n")

@@ -60,11 +60,17 @@ def make_ready(name: str, failed: int) -> None:
     if name.endswith("-day"):
         names["./day"] = name
     sys.stderr = cast(TextIO, Quiet(open_standard_error()))
-    if not is_open(sys.stdout):
-        print(f"{name}: standard output cannot be written: it is closed", file=sys.stderr)
+    if not can_be_written(name):
         sys.exit(failed)
     for stream in (sys.stdout, sys.stderr):
         cast(io.TextIOWrapper, stream).reconfigure(encoding="utf-8", errors="surrogateescape", newline="\n")
+
+
+def can_be_written(name: str) -> bool:
+    """Whether standard output is open; says so if it is not."""
+    if not is_open(sys.stdout):
+        print(f"{name}: standard output cannot be written: it is closed", file=sys.stderr)
+    return is_open(sys.stdout)
 
 
 def let_go(stream: TextIO) -> None:
@@ -82,8 +88,7 @@ def cannot_be_written(name: str, error: OSError) -> None:
 
 def write(name: str, text: str, failed: int) -> int:
     """Writes a text, and answers the exit status of the tool of this name: 0, or `failed`."""
-    if not is_open(sys.stdout):
-        print(f"{name}: standard output cannot be written: it is closed", file=sys.stderr)
+    if not can_be_written(name):
         return failed
     try:
         sys.stdout.write(text)

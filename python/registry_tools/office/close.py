@@ -74,6 +74,8 @@ class Settled:
     report: Report
     report_text: bytes
     engine: Engine
+    # The day as the index has it, with the day before.
+    past_day: PastDay
 
 
 def run(said: argparse.Namespace) -> int:
@@ -103,17 +105,11 @@ def run(said: argparse.Namespace) -> int:
             write_waits(there.folder, settled.day, settled.report, str(waiting))
             there.keep()
             change.keep(event)
-        index.keep_up(office, event, past_day_of(settled))
+        index.keep_up(office, event, settled.past_day)
     # (it is another one on each machine, and the answer is not)
     folder.to_errors(f"settled by {settled.engine}\nhead: {office.journal.head}")
     print(streams.by_name("\n".join([*summary(outcome_of_day(settled), said.second), *left])))
     return 0
-
-
-def past_day_of(settled: Settled) -> PastDay:
-    """The day as the index has it, with the day before."""
-    before = settled.composed.before
-    return PastDay(settled.day, settled.report, before and before[1], before[0].heading if before else [])
 
 
 def left_for_later(handed_in: HandedIn, date: datetime.date) -> list[str]:
@@ -140,11 +136,13 @@ def settle(office: Office, composed: NextDay, by_second: bool, verifies: bool = 
     whose = "the second answer" if by_second else program or "the program"
     source = rows_of_text(f"the report of {whose}", text.decode("utf-8", "surrogateescape"))
     report = report_of(source, day)
-    must_follow(day, report)
+    before = composed.before
+    past_day = PastDay(day, report, before and before[1], before[0].heading if before else [])
+    must_follow(day, report, past_day.sums())
     if not by_second:
         whole = verifies or office.settings.verifies
         raise_first([first_difference(source, expected_rows(day)) if whole else difference_of_touched(day, report)])
-    return Settled(composed, day, report, text, engine)
+    return Settled(composed, day, report, text, engine, past_day)
 
 
 def file_day(office: Office, place: Path, handed_in: HandedIn, settled: Settled, approved: str) -> Event:

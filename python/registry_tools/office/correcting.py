@@ -134,8 +134,7 @@ class Correction:
         """What was handed in for a day, without what is left out, and with what is added."""
         filed, contents = undo.filed_parts(self.office, event)
         # (what waited stands before what was handed in)
-        new = contents[DO].count(b"\n") + sum(part.count for part in filed.parts if part.kind == FIRST)
-        begin = event.next - new
+        begin = event.next - contents[DO].count(b"\n") - (filed.first.count if filed.first else 0)
         for record in sorted((own for own in self.without if event.first <= own < event.next), reverse=True):
             self.leave_out(record, record - begin, filed, contents)
         if reports:
@@ -155,7 +154,7 @@ class Correction:
         """Takes an instruction out of what was handed in for a day, by its place there."""
         if place < 0:
             raise WordsFault(self.waited(record))
-        first = next((part for part in filed.parts if part.kind == FIRST), None)
+        first = filed.first
         count = first.count if first else 0
         if first and place < count:
             contents[FIRST] = without_row(contents[FIRST], place)

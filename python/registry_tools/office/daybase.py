@@ -10,7 +10,6 @@ from registry_tools.office.past import PastDay
 from registry_tools.texts.accounts import Block
 from registry_tools.texts.books import sums_told
 from registry_tools.texts.report import LogRow
-from registry_tools.texts.runs import unlike
 
 Row = tuple[object, ...]
 # A column has 63 bits, and an amount that is refused may have 64: the largest number stands for all above it.
@@ -42,17 +41,11 @@ def rows_of_day(past_day: PastDay, sums: tuple[str, str]) -> Iterator[tuple[str,
     yield "log", map(log_of, log)
     yield "held", (row for logged in log if logged.is_done for row in held_of(logged))
     yield "totals", [(date, kind, *own) for kind, own in sums_told(report).items()]
-    changed = changed_accounts(past_day)
+    changed = [report.book[number] for number in past_day.changed]
     yield "accounts_by_day", (account_of(past_day.date, block) for block in changed)
     for tag, table in LISTS.items():
         yield table, (row for block in changed for row in list_of(past_day.date, block, tag))
     yield "hand_changes", changes_by_hand(past_day)
-
-
-def changed_accounts(past_day: PastDay) -> list[Block]:
-    """The accounts after the day that are others than after the day before; on a first day, all of them."""
-    book = past_day.report.book
-    return [book[number] for number in unlike(past_day.before.book if past_day.before else {}, book)]
 
 
 def add_day(database: sqlite3.Connection, past_day: PastDay, sums: tuple[str, str]) -> None:

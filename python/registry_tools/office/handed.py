@@ -181,10 +181,14 @@ class HandedIn:
             if part.kind in kinds:
                 yield from (item for item in items_of(self.folder, part) if item.place not in gone)
 
+    @property
+    def first(self) -> Part | None:
+        """The file of the first day text, if it is here."""
+        return next((part for part in self.parts if part.kind == FIRST), None)
+
     def first_text(self) -> DayText | None:
         """The first day text, if it is here."""
-        part = next((part for part in self.parts if part.kind == FIRST), None)
-        return day_of(rows_of(self.folder / part.file)) if part else None
+        return day_of(rows_of(self.folder / self.first.file)) if self.first else None
 
     def sources(self) -> Iterator[Source]:
         """What the rows of tables were made of."""

@@ -21,10 +21,11 @@ heading its lines have them.
 """
 import csv
 import datetime
+import functools
 import io
 from dataclasses import dataclass, field
 from pathlib import Path
-from typing import Iterator, NamedTuple
+from typing import Iterator
 
 from registry_tools.errors import FileFault, raise_first, shown
 from registry_tools.office.files import bytes_in, sum_of
@@ -68,7 +69,8 @@ def row_of(fields: list[str]) -> str:
     return buffer.getvalue().removesuffix(ROW_END)
 
 
-class Event(NamedTuple):
+@dataclass
+class Event:
     """A line of the journal."""
 
     event: str
@@ -90,19 +92,20 @@ class Event(NamedTuple):
     people: str = ""
     columns: tuple[str, ...] = COLUMNS
 
+    @functools.cached_property
     def body(self) -> str:
         """All of its line but the last field."""
-        said = {**dict.fromkeys(FILES, ""), **self.sums, **self._asdict()}
+        said = {**dict.fromkeys(FILES, ""), **self.sums, **vars(self)}
         return row_of([str(said[name]) for name in self.columns[:-1]])
 
-    @property
+    @functools.cached_property
     def line(self) -> str:
         """The sum of the line, which the next one has."""
-        return sum_of(self.body().encode("utf-8", "surrogateescape"))
+        return sum_of(self.body.encode("utf-8", "surrogateescape"))
 
     def row(self) -> str:
         """The line of the journal."""
-        return f"{self.body()},{self.line}"
+        return f"{self.body},{self.line}"
 
 
 @dataclass

@@ -4,6 +4,7 @@ import argparse
 import bisect
 import contextlib
 import datetime
+import functools
 from dataclasses import dataclass
 from pathlib import Path
 from typing import Iterator, TypeVar
@@ -15,12 +16,14 @@ from registry_tools.office.folder import Office
 from registry_tools.office.journal import Event
 from registry_tools.progress import progress
 from registry_tools.texts import changes
+from registry_tools.texts.books import Sums, sums_of, sums_told
 from registry_tools.texts.changes import HandChange
 from registry_tools.texts.day_text import DayText, read_day
 from registry_tools.texts.filed import filed_day, filed_report
 from registry_tools.texts.follows import must_follow
 from registry_tools.texts.report import Report, read_report
 from registry_tools.texts.rows import rows_of
+from registry_tools.texts.runs import unlike
 
 T = TypeVar("T")
 # The files of a pair, and those that tell changes by hand, by the columns of the journal.
@@ -64,6 +67,24 @@ class PastDay:
     def date(self) -> datetime.date:
         """The date of the day."""
         return self.day.head.date
+
+    @functools.cached_property
+    def changed(self) -> list[int]:
+        """The accounts after the day that are others than after the day before; on a first day, all of them."""
+        day, report = self.day.others, self.report.others
+        others = None if day is None or report is None else sorted({*day, *report} & self.report.book.keys())
+        return unlike(self.before.book if self.before else {}, self.report.book, others)
+
+    def sums(self) -> dict[str, Sums]:
+        """The sums over the accounts of the report, by the totals of the report before, which were compared: only
+        accounts that are others now are added up."""
+        if self.before is None:
+            return sums_of(self.report.book_rows)
+        old, new, told = self.before.book, self.report.book, sums_told(self.before)
+        gone = sums_of(row for own in {*self.changed, *old.keys() - new.keys()} & old.keys() for row in old[own].rows)
+        come = sums_of(row for own in self.changed for row in new[own].rows)
+        pairs = {kind: zip(told[kind], gone[kind], come[kind]) for kind in told}
+        return {kind: Sums(*(was - less + more for was, less, more in own)) for kind, own in pairs.items()}
 
     def changes(self) -> Iterator[HandChange]:
         """What people changed before this day."""

@@ -4,7 +4,6 @@ from registry_tools.office import composing, files, handed_journal, merged, sett
 from registry_tools.office.audited import Audit, compare_texts
 from registry_tools.office.composing import NextDay
 from registry_tools.office.folder import Office
-from registry_tools.office.handed import FIRST, HandedIn
 from registry_tools.office.journal import Event
 from registry_tools.texts.day_text import DayText, read_day
 from registry_tools.texts.follows import differences
@@ -49,19 +48,17 @@ def look_at_seam(audit: Audit, event: Event, day: DayText, before: Pair | None) 
     """Whether the day's text and what waits are what the day before and the files that were handed in make."""
     office = audit.office
     filed = handed_journal.read_journal(office.file(event, "handed"))
-    is_first = any(part.kind == FIRST for part in filed.parts)
-    if not is_first and before is None:
+    if not filed.first and before is None:
         return
-    composed = first_again(office, event, day, filed) if is_first else later_again(office, event, before)
+    again = first_again(office, event, day, filed.first.count) if filed.first else later_again(office, event, before)
     mend = audit.mending(event.date)
-    compare_texts(audit, day.path, bytes_of(day.path), composed.text, "what was handed in", mend)
+    compare_texts(audit, day.path, bytes_of(day.path), again.text, "what was handed in", mend)
     waiting = office.file(event, "waiting")
-    compare_texts(audit, str(waiting), files.bytes_in(waiting), composed.waiting_text(), "what was handed in", mend)
+    compare_texts(audit, str(waiting), files.bytes_in(waiting), again.waiting_text(), "what was handed in", mend)
 
 
-def first_again(office: Office, event: Event, day: DayText, filed: HandedIn) -> NextDay:
-    """The first day of its own first rows and what was handed in."""
-    count = next(part.count for part in filed.parts if part.kind == FIRST)
+def first_again(office: Office, event: Event, day: DayText, count: int) -> NextDay:
+    """The first day of its own first rows, with so many instructions, and what was handed in."""
     new = files.bytes_in(office.file(event, "do")).decode("utf-8", "surrogateescape").splitlines()
     rows = [*day.source.rows[: day.first_do + count], *new, "end"]
     return NextDay(event.date, event.first, text_of_rows(rows), [], [], [], {})

@@ -104,16 +104,11 @@ def filed_parts(office: Office, last: Event) -> tuple[HandedIn, dict[str, bytes]
     """What the day was made of: who handed in what, and the contents by kind."""
     filed = handed_journal.read_journal(office.file(last, "handed"))
     contents = {kind: files.bytes_in(office.file(last, kind)) for kind in merged.MERGED}
-    first = next((part for part in filed.parts if part.kind == FIRST), None)
-    if first:
-        contents[FIRST] = first_text(office, last, first.count)
+    if filed.first:
+        # (the first text as it was before others handed in more)
+        day = day_of(rows_of(str(office.file(last, "day"))))
+        contents[FIRST] = text_of_rows([*day.source.rows[: day.first_do + filed.first.count], "end"])
     return filed, contents
-
-
-def first_text(office: Office, last: Event, count: int) -> bytes:
-    """The first day text as it was before others handed in more: with so many instructions."""
-    day = day_of(rows_of(str(office.file(last, "day"))))
-    return text_of_rows([*day.source.rows[: day.first_do + count], "end"])
 
 
 def write_waits_before(office: Office, there: HandedIn) -> None:

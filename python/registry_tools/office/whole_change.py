@@ -38,14 +38,16 @@ class Change:
             files.sync_tree(self.folder)
         must_be_movable(office, events)
         files.move(self.folder, office.path / PREPARED)
-        left = files.step(office.path / JOURNAL, office.journal.with_event(*events).encode("utf-8", "surrogateescape"))
+        there, text = office.journal, office.journal.with_event(*events)
+        left = files.step(office.path / JOURNAL, text.encode("utf-8", "surrogateescape"))
         try:
             prepared.put_in_place(office.path, what, date)
         except (FileFault, OSError) as fault:
             left = f"the next command puts the rest in place: {fault}"
         tell_left(prepared.what_is_done(what, date), left)
-        with contextlib.suppress(FileFault):
-            office.journal = journal.read(office.path / JOURNAL)
+        there.text, there.columns = text, last.columns
+        for event in events:
+            there.add(event)
 
     def __exit__(self, *_error: object) -> None:
         files.remove_tree(self.folder)

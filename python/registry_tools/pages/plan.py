@@ -25,6 +25,13 @@ class Task:
     level: int
     tails: list[tuple[int, int]] = field(default_factory=list)
 
+    def accounts(self) -> dict[int, list[str]]:
+        """The accounts at which it waits, by the record that it waits for."""
+        found: dict[int, list[str]] = {}
+        for tail, account in self.tails:
+            found.setdefault(tail, []).append(str(account))
+        return found
+
 
 def plan_of(log: Iterable[LogRow]) -> dict[int, Task]:
     """The tasks by record number. An instruction waits for the one before it at each account that it touches."""
@@ -50,10 +57,7 @@ def box_of(logged: LogRow, column: int, row: int) -> grid.Box:
 def arrows_of(tasks: dict[int, Task], records: Collection[int]) -> Iterator[grid.Arrow]:
     """The arrows between these records; one for each pair, with its accounts."""
     for head in records:
-        accounts: dict[int, list[str]] = {}
-        for tail, account in tasks[head].tails:
-            accounts.setdefault(tail, []).append(str(account))
-        for tail, own in accounts.items():
+        for tail, own in tasks[head].accounts().items():
             if tail in records:
                 more = f" +{len(own) - 1}" if len(own) > 1 else ""
                 yield grid.Arrow(tail, head, own[0] + more, f"{head} waits for {tail}: account {', '.join(own)}")
@@ -86,10 +90,7 @@ def places_in_levels(tasks: dict[int, Task]) -> dict[int, tuple[int, int]]:
 
 def waits_in_words(task: Task) -> str:
     """For which instructions a task waits, and at which accounts."""
-    accounts: dict[int, list[str]] = {}
-    for tail, account in task.tails:
-        accounts.setdefault(tail, []).append(str(account))
-    return "; ".join(f"{tail} ({', '.join(own)})" for tail, own in sorted(accounts.items()))
+    return "; ".join(f"{tail} ({', '.join(own)})" for tail, own in sorted(task.accounts().items()))
 
 
 def plan_table(tasks: Iterable[Task], caption: str) -> Markup:

@@ -88,10 +88,10 @@ class Reader:
         place = self.source.path, self.source.line(index)
         return RowFault(index + 1, fault.cause, *place, name, found, fault.expected)
 
-    def blocks(self, first: int, known: Known | None = None) -> tuple[dict[int, Block], int]:
+    def blocks(self, first: int, known: Known | None = None) -> tuple[dict[int, Block], int, list[int] | None]:
         """The accounts whose blocks begin at this row, by number, and the place of the row behind them. Those that
-        stand so in the known book need no look."""
-        source, book, end = self.source, dict[int, Block](), first
+        stand so in the known book need no look; the others are told, if there is one."""
+        source, book, end, others = self.source, dict[int, Block](), first, list[int]()
         pattern, what = self.pattern(), f"reading the accounts of {source.path}"
         known_book = known.book_for(self.reading) if known and not source.unplain else {}
         for run in runs_of(source.rows, first, [*known_book.values()]):
@@ -102,8 +102,9 @@ class Reader:
                 for start, behind in run.places():
                     number = self.block(start, behind, pattern, known_book)
                     book[number] = Block(number, source, start, behind - start)
+                    others.append(number)
             end = run.behind
-        return book, end
+        return book, end, others if known else None
 
     def add_known(self, run: Run) -> bool:
         """Adds accounts that stand so in the known book, if there are some and they may stand here."""
@@ -149,6 +150,8 @@ class WithBook:
     source: Rows
     book: dict[int, Block]
     first_account: int
+    # The accounts that do not stand so in the text before it; None, if it was read without that one.
+    others: list[int] | None
 
     @property
     def path(self) -> str | Path:

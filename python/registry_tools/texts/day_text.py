@@ -23,6 +23,7 @@ class DayText(WithBook):
     # The places of the first `account` row, and of the first `do` row.
     first_account: int
     first_do: int
+    others: list[int] | None = None
 
     @property
     def heading(self) -> list[str]:
@@ -81,7 +82,7 @@ def day_of(source: Rows, known: Known | None = None) -> DayText:
     first_account = next(starts, len(rows))
     for index in range(first_account):
         reader.add(index)
-    book, first_do = reader.blocks(first_account, known)
+    book, first_do, others = reader.blocks(first_account, known)
     for index in range(first_do, len(source)):
         reader.add(index)
     if reader.reading.last != "end":
@@ -89,7 +90,7 @@ def day_of(source: Rows, known: Known | None = None) -> DayText:
         raise RowFault(behind + 1, "end", source.path, source.line(behind), "end", "the end of the file", lacking)
     head = rules.day_of_fields(row.split(",") for row in rows[:first_account])
     instructions = [rules.read_instruction(row.split(",")[1:]) for row in rows[first_do:-1]]
-    return DayText(source, reader.reading.version, head, book, instructions, first_account, first_do)
+    return DayText(source, reader.reading.version, head, book, instructions, first_account, first_do, others)
 
 
 # Parts of day texts.
@@ -110,7 +111,7 @@ def read_rows_of(tag: str, path: str | Path | Rows, reading: faults.Reading) -> 
 def read_blocks(path: str | Path | Rows, reading: faults.Reading) -> dict[int, Block]:
     """The accounts of a file that has only their blocks, and perhaps `end`, by number."""
     source = part_of_day(path)
-    book, behind = Reader(source, reading).blocks(0)
+    book, behind, _ = Reader(source, reading).blocks(0)
     if behind < len(source):
         raise source.fault(behind, "tag", shown(source.fields(behind)[0]), "account rows, and the rows of their lists")
     return book

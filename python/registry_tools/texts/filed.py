@@ -9,18 +9,19 @@ from registry_tools.texts.rows import Rows
 from registry_tools.texts.runs import runs_of
 
 
-def book_of(source: Rows, first: int, known: dict[int, Block]) -> tuple[dict[int, Block], int]:
+def book_of(source: Rows, first: int, known: dict[int, Block]) -> tuple[dict[int, Block], int, list[int] | None]:
     """The accounts from this row on, and the place of the row behind them: by those of a text before it, if there is
-    one."""
-    rows, book, behind = source.rows, dict[int, Block](), len(source)
+    one; then also which do not stand so there."""
+    rows, book, behind, others = source.rows, dict[int, Block](), len(source), list[int]()
     if known:
         for run in runs_of(rows, first, [*known.values()]):
             for start, stop in () if run.same else run.places():
                 number = int(rows[start].split(",", 2)[1])
                 book[number] = Block(number, source, start, stop - start)
+                others.append(number)
             run.add_to(book, source)
             behind = run.behind
-        return book, behind if book else first
+        return book, behind if book else first, others
     while rows[behind - 1].startswith(("do,", "totals,", "end")):
         behind -= 1
     # (of the rows of accounts, only the first of each begins with this letter)
@@ -28,17 +29,17 @@ def book_of(source: Rows, first: int, known: dict[int, Block]) -> tuple[dict[int
     for start, end in zip(starts, [*starts[1:], behind]):
         number = int(rows[start].split(",", 2)[1])
         book[number] = Block(number, source, start, end - start)
-    return book, behind
+    return book, behind, None
 
 
 def filed_day(source: Rows, before: Report | None = None) -> DayText:
     """The day text of these rows; quicker with the report of the day before. Raises ValueError if it can't be one."""
     first = next((place for place, row in enumerate(source.rows) if row.startswith(("account,", "do,", "end"))), 0)
     head = rules.day_of_fields(row.split(",") for row in source.rows[:first])
-    book, behind = book_of(source, first, before.book if before else {})
+    book, behind, others = book_of(source, first, before.book if before else {})
     instructions = [rules.read_instruction(row.split(",")[1:]) for row in source.rows[behind:-1]]
     version = int(source.rows[0].removeprefix("format,"))
-    return DayText(source, version, head, book, instructions, first, behind)
+    return DayText(source, version, head, book, instructions, first, behind, others)
 
 
 def filed_report(source: Rows, day: DayText) -> Report:
@@ -46,6 +47,7 @@ def filed_report(source: Rows, day: DayText) -> Report:
     reader, log, rows = Reader(source, faults.Reading(last="work", version=2)), list[LogRow](), source.rows
     while rows[len(log)].startswith("log,"):
         log.append(log_row(reader, len(log)))
-    book, behind = book_of(source, len(log) + 1, day.book)
+    book, behind, others = book_of(source, len(log) + 1, day.book)
     totals = {kind: [*map(int, row.split(",")[2:])] for kind, row in zip(rules.KINDS, rows[behind:-1])}
-    return Report(source, log, int(rows[len(log)].removeprefix("book,")), book, totals, len(log) + 1, behind)
+    next_record = int(rows[len(log)].removeprefix("book,"))
+    return Report(source, log, next_record, book, totals, len(log) + 1, behind, others)

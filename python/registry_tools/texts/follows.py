@@ -13,7 +13,7 @@ Whether a refused instruction had to be refused, and by which check, is not look
 import bisect
 from typing import Iterator
 
-from registry_tools.errors import FileFault, shown
+from registry_tools.errors import FileFault, raise_first, shown
 from registry_tools.progress import progress
 from registry_tools.second import rules
 from registry_tools.texts.accounts import Known, WithBook
@@ -113,7 +113,8 @@ class Replay:
     def differences_of_accounts(self) -> Iterator[FileFault]:
         """Where the accounts behind the log are not those that it leaves."""
         day, report = self.day, self.report
-        for number in sorted({*unlike(day.book, report.book), *self.last, *(day.book.keys() - report.book.keys())}):
+        lost, touched = day.book.keys() - report.book.keys(), self.last
+        for number in sorted({*unlike(day.book, report.book, report.others), *touched, *lost}):
             block = day.book.get(number)
             if block is None:
                 continue
@@ -172,7 +173,6 @@ def read_pair(day_path: str, report_path: str, known: Known | None = None) -> tu
     return day, report
 
 
-def must_follow(day: DayText, report: Report) -> None:
-    """Ends the command at the first difference."""
-    for difference in differences(day, report):
-        raise difference
+def must_follow(day: DayText, report: Report, sums: dict[str, Sums] | None = None) -> None:
+    """Ends the command at the first difference. `sums` are those over the accounts of the report, if they are known."""
+    raise_first(differences(day, report, sums))

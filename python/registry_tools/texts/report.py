@@ -51,6 +51,7 @@ class Report(WithBook):
     totals: dict[str, list[int]]
     first_account: int
     first_totals: int
+    others: list[int] | None = None
 
     @property
     def book_rows(self) -> list[str]:
@@ -199,7 +200,7 @@ def report_of(source: Rows, day: DayText | None = None) -> Report:
     (next_record,) = written_row(source, index, "book", BOOK)
     reader.reading.next_record = next_record
     first_account = index + 1
-    book, index = reader.blocks(first_account, day.known() if day else None)
+    book, index, others = reader.blocks(first_account, day.known() if day else None)
     first_totals = index
     totals: dict[str, list[int]] = {}
     for kind in rules.KINDS:
@@ -209,4 +210,4 @@ def report_of(source: Rows, day: DayText | None = None) -> Report:
     written_row(source, index, "end", [])
     if index + 1 < len(source):
         raise source.fault(index + 1, "", "a row behind the row end", "the end of the file")
-    return Report(source, log, next_record, book, totals, first_account, first_totals)
+    return Report(source, log, next_record, book, totals, first_account, first_totals, others)

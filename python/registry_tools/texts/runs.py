@@ -98,10 +98,15 @@ def passed(known: Sequence[Block], at: int, row: str) -> int:
     return bisect.bisect_right(known, number, at, key=BY_NUMBER) - at
 
 
-def unlike(old: dict[int, Block], new: dict[int, Block]) -> list[int]:
+def unlike(old: dict[int, Block], new: dict[int, Block], others: list[int] | None = None) -> list[int]:
     """The accounts of a text that have other rows than in an older one, or are new. Each of both books is that of one
-    text."""
-    blocks = [*new.values()]
+    text. `others` are those that may be, if they are known."""
+    numbers = apart(old, [*new.values()]) if others is None else others
+    return [number for number in numbers if number not in old or old[number].rows != new[number].rows]
+
+
+def apart(old: dict[int, Block], blocks: list[Block]) -> list[int]:
+    """The accounts of a text that do not stand in runs of an older one."""
     if not blocks:
         return []
     numbers, place = [], 0
@@ -111,4 +116,4 @@ def unlike(old: dict[int, Block], new: dict[int, Block]) -> list[int]:
         else:
             numbers.append(blocks[place].number)
             place += 1
-    return [number for number in numbers if number not in old or old[number].rows != new[number].rows]
+    return numbers
