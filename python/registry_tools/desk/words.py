@@ -23,12 +23,13 @@ LAGS = {
     "list": "Working days until an addition to a trusted list is in effect",
     "reversal": "Working days in which a surrender or a deletion can be reversed",
 }  # fmt: skip
-# What messages say of words of commands, and what does the same here; the page of a command; and what its options are.
+# What messages say of words of commands, and what does the same here; the page of a command; and its options.
 AT_THE_DESK = {
     OTHER_FORM: "another form is chosen with the file",
     EMPTY_TABLE: "the page Hand in has empty tables", OTHER_HEADINGS: "the page Hand in has empty tables",
     MORE_WORK: "add working days (Change, the rules)", "--release releases it": "its box on the page Send releases it",
     "nothing to change: ./day change --help tells what can be": "nothing to change: the form says what is there",
+    "is in next again": "is handed in again",
     "settled by no proved engine, as far as the journal says": "days for which the journal names no proved engine",
 }  # fmt: skip
 PAGES = {
@@ -70,10 +71,10 @@ def seen(text: str, office: str, private: str) -> str:
     """The text of a page as it goes out. Messages name files by their paths, times in UTC, and words of commands: here
     files of the folder begin in it, uploads have their names, times are of this machine, and a page is named where a
     command was."""
-    for what, here in AT_THE_DESK.items():
-        text = text.replace(what, here)
     text = re.sub(f"{re.escape(markup(office))}/|{re.escape(markup(private))}/[0-9a-f]+/", "", text)
     text = re.sub(f"(?:--office )?{re.escape(markup(office))}", "the folder", text)
+    for what, here in AT_THE_DESK.items():
+        text = text.replace(what, here)
     # (what stands in a tag, as what was typed into a field, stays)
     parts = re.split("(<[^>]*>)", text)
     text = "".join(part if part.startswith("<") else in_office_words(part) for part in parts)
