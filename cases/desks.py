@@ -17,7 +17,7 @@ from reread import FORBIDDEN, Attributes, Page, named
 
 from registry_tools.desk import app
 from registry_tools.desk.jobs import COMMAND, Started
-from registry_tools.desk.served import Served
+from registry_tools.desk.gate import Served
 
 HOST = "127.0.0.1:8424"
 # What no page says: commands, their options, and paths of the disk. Documents tell of commands; and what the trials

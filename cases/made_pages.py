@@ -100,18 +100,20 @@ def acts_of(made: Made) -> None:
     """The counts of each act are those of the log, and their sums are right."""
     expected = []
     for act, (name, _) in ACTS.items():
-        own = [logged.is_done for logged in made.report.log if logged.instruction.act == act]
+        own = [logged for logged in made.report.log if logged.instruction.act == act]
         if own:
-            expected.append([name, *map(grouped, (sum(own), len(own) - sum(own), len(own)))])
+            expected.append([name, *map(grouped, (*outcomes_of(own), len(own)))])
     if not made.report.log:
         assert not any(table.caption == "Instructions by act" for table in made.page().tables)
         return
-    done = sum(logged.is_done for logged in made.report.log)
-    count = len(made.report.log)
-    assert made.page().table("Instructions by act").rows == [
-        *expected,
-        ["all acts", *map(grouped, (done, count - done, count))],
-    ]
+    all_acts = ["all acts", *map(grouped, (*outcomes_of(made.report.log), len(made.report.log)))]
+    assert made.page().table("Instructions by act").rows == [*expected, all_acts]
+
+
+def outcomes_of(log: list[LogRow]) -> tuple[int, int, int]:
+    """How many instructions were done and refused, and wait for their due day."""
+    done, waits = sum(logged.is_done for logged in log), sum(logged.name == "NotDue" for logged in log)
+    return done, len(log) - done - waits, waits
 
 
 def totals_of(made: Made) -> None:
@@ -147,7 +149,7 @@ def refusals_of(made: Made) -> None:
     """Each refusal stands under its check, with the meaning and the remedy of the rules, and a link to the check."""
     refused: dict[int, list[str]] = {}
     for logged in made.report.log:
-        if not logged.is_done:
+        if not logged.is_done and logged.name != "NotDue":
             refused.setdefault(logged.code, []).append(str(logged.record))
     page, told = made.page(), re.findall("(?:It refuses if|What to do): .*", made.page().text_by_lines)
     expected = []
@@ -255,15 +257,16 @@ def index_of(made: Made) -> None:
 
 
 def all_of_log_are_told(made: Made) -> None:
-    """The lead says the record numbers, and how many were done and refused."""
+    """The lead says the record numbers, and how many were done and refused, and wait."""
     log, text = made.report.log, made.page().text
-    done = sum(logged.is_done for logged in log)
+    done, refused, waits = outcomes_of(log)
+    waiting = f", {grouped(waits)} waiting for their due day" if waits else ""
     assert f"The next record number is {'still ' * (not log)}{made.report.next_record}." in text.replace(
         "still ", "" if log else "still "
     ) or (f"The next record number is {made.report.next_record}." in text)
     if log:
         assert str(log[0].record) in text and str(log[-1].record) in text
-        assert f"{grouped(done)} done, {grouped(len(log) - done)} refused" in text
+        assert f"{grouped(done)} done, {grouped(refused)} refused{waiting}." in text
 
 
 # Compliance, and the list of accounts.
@@ -331,8 +334,7 @@ def accounts_of(made: Made) -> None:
     expected = []
     for account in made.report.book.values():
         own = account.account()
-        touched = [logged.is_done for logged in made.report.log if own.number in logged.touched()]
-        counts = (sum(touched), len(touched) - sum(touched))
+        counts = outcomes_of([logged for logged in made.report.log if own.number in logged.touched()])
         expected.append(
             [str(own.number), own.kind, str(own.holder), own.status, *map(grouped, (*own.held.values(), *counts))]
         )
@@ -380,7 +382,7 @@ def statements_of(made: Made) -> None:
         told = []
         for kind in rules.KINDS:
             told += entries_of(page, kind, rows)
-        for caption in ("Entries that move no", "Instructions that were refused"):
+        for caption in ("Entries that move no", "Instructions that were refused", "Each is entered again by itself"):
             if any(table.caption.startswith(caption) for table in page.tables):
                 told += [row for (row,) in page.table(caption).columns("Record")]
         assert {*told} == {str(each.record) for each, _ in seen_by(made, account.number)}, f"{account.number}: {told}"
@@ -478,7 +480,7 @@ def refusals_of_accounts(made: Made) -> None:
         expected: list[tuple[str, str | None, str, str, str]] = []
         for logged, is_whole in seen_by(made, account.number):
             by = ", ".join(field for field in logged.instruction.fields[1:3] if field and int(field) in account.users)
-            if not is_whole:
+            if not is_whole and logged.name != "NotDue":
                 expected.append(
                     (
                         str(logged.record),
@@ -488,7 +490,7 @@ def refusals_of_accounts(made: Made) -> None:
                         "Nothing: this account did not ask for it.",
                     )
                 )
-            elif not logged.is_done:
+            elif not logged.is_done and logged.name != "NotDue":
                 expected.append((str(logged.record), None, by, logged.name, advice[logged.name]))
         table = by_caption.get("Instructions that were refused")
         told = table.columns("Record", "Instruction", "By", "Refused as", "What to do") if table else []

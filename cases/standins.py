@@ -68,6 +68,8 @@ struct registry_answer registry_statement(const char *day, size_t length, uint32
   return answer(words, day, length, room, most);
 }}
 
+size_t registry_report_most(size_t length) {{ return length > SIZE_MAX / 8 ? SIZE_MAX : 8 * length; }}
+
 uint32_t registry_version(void) {{ return REGISTRY_VERSION; }}
 
 static struct registry_answer told(const char *text, char *room, size_t most) {{

@@ -78,6 +78,10 @@ struct registry_answer {
  * same bytes as `registry settle`. Instructions that are refused are no fault: the log says why. */
 struct registry_answer registry_settle(const char *day, size_t day_length, char *room, size_t room_length);
 
+/* How many bytes the report of a day text of this length has at most: eight times as many, or SIZE_MAX if that is more.
+ * So with a room of so many bytes one call of registry_settle is enough. Room that no text reaches is not touched. */
+size_t registry_report_most(size_t day_length);
+
 /* Settles the day as a trial: the log rows of the report alone, one for each instruction. The text may be empty. */
 struct registry_answer registry_try(const char *day, size_t day_length, char *room, size_t room_length);
 

@@ -41,19 +41,14 @@ static struct bytes read_file(FILE *file) {
   return read;
 }
 
-/* Settles a day into memory that this function takes: as much as the library says. */
+/* Settles a day into memory that this function takes: as much as any report of a day text of this length needs. */
 static struct registry_answer settle(struct bytes day, struct bytes *report) {
-  size_t room = 2 * day.length + 4096;
-  struct registry_answer answer;
-  for (;;) {
-    report->start = malloc(room);
-    if (!report->start) return (struct registry_answer){REGISTRY_NO_MEMORY, 0, 0, 0};
-    answer = registry_settle(day.start, day.length, report->start, room);
-    report->length = answer.length;
-    if (answer.status != REGISTRY_DONE || answer.length <= room) return answer;
-    free(report->start);
-    room = answer.length;
-  }
+  size_t room = registry_report_most(day.length);
+  report->start = malloc(room ? room : 1);
+  if (!report->start) return (struct registry_answer){REGISTRY_NO_MEMORY, 0, 0, 0};
+  struct registry_answer answer = registry_settle(day.start, day.length, report->start, room);
+  report->length = answer.length;
+  return answer;
 }
 
 /* Says the first fault of a day text as the program does. */

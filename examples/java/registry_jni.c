@@ -70,6 +70,12 @@ JNIEXPORT jbyteArray JNICALL Java_registry_Registry_call(JNIEnv *env, jclass sel
   return text;
 }
 
+JNIEXPORT jlong JNICALL Java_registry_Registry_most(JNIEnv *env, jclass self, jlong day_length) {
+  (void)env, (void)self;
+  size_t most = registry_report_most((size_t)day_length);
+  return most < INT64_MAX ? (jlong)most : INT64_MAX;
+}
+
 /* Words that the library tells, whatever it is asked: the version of the engine, the word of a cause, and the name and
  * the sentence of a check. */
 JNIEXPORT jstring JNICALL Java_registry_Registry_words(JNIEnv *env, jclass self, jint which, jint number) {

@@ -4,7 +4,7 @@ import os
 import re
 import sys
 from pathlib import Path
-from typing import IO, Any, Iterator
+from typing import IO, Any, Iterator, NoReturn
 
 from registry_tools import streams
 from registry_tools.errors import WordsFault
@@ -66,6 +66,14 @@ class Words(argparse.ArgumentParser):
         stream = file or sys.stderr
         stream.write(message)
         stream.flush()
+
+
+class TellingWords(Words):
+    """A parser of words that says by a fault what it does not take, and ends nothing."""
+
+    def error(self, message: str) -> NoReturn:
+        """Raises WordsFault with what is wrong."""
+        raise WordsFault(message)
 
 
 def word_of(path: str | Path) -> str:

@@ -5,14 +5,14 @@ ghost use Rattle.reg_front.specs.Streams.{CanFail};
 ghost use Rattle.reg_front.specs.Runs.{WritesText};
 ghost use Rattle.reg_front.specs.declared.command.Command.TheVariants.{Totals};
 
-use reg_front::{Counted, FrontFault, Sink, run_totals};
+use reg_front::{Command, Counted, FrontFault, Sink, run};
 use std::alloc::Global;
 use std::thread::Threads;
 
 /// Settles the day of a text, and writes the totals after it.
 ///
 /// # Errors
-/// As [`run_totals`].
+/// As [`run`].
 pub fn write_totals<T: Threads + Sync, W: Sink>(
     rt: &T,
     alloc: Global,
@@ -24,5 +24,5 @@ pub fn write_totals<T: Threads + Sync, W: Sink>(
         (W.stream writer.new).bytes) }
 {
     let mut reader = Counted::new(text);
-    run_totals(rt, alloc, &mut reader, writer)
+    run(rt, alloc, &mut reader, writer, Command::Totals)
 }

@@ -14,8 +14,7 @@ use Rattle.reg_account.specs.declared.rows.RetirementRow.{RetirementRow}
 use Rattle.reg_account.specs.declared.years.Emission.{Emission}
 use Rattle.reg_account.specs.declared.years.Figure.{Figure}
 use Rattle.reg_account.specs.declared.figure.FigureFault.{FigureFault}
-use Rattle.reg_account.specs.declared.figure.FigureFault.TheVariants.{YearOutsidePeriod, Missing}
-use Rattle.reg_account.specs.Rows.{is_for, amount_for, surrendered_in}
+use Rattle.reg_account.specs.declared.figure.FigureFault.TheVariants.{YearOutsidePeriod}
 use Rattle.reg_account.specs.Years.{EmissionFits, FigureFits, emissions_in, figure_in}
 use Rattle.reg_account.specs.Account.{AccountValue, unretired_row}
 use Rattle.reg_account.specs.Figure.{years_counted, is_for_year, is_row_counted, surrendered_for_year, correction_added}
@@ -25,16 +24,6 @@ use Rattle.reg_account.proofs.Keyed.{from_zero, find_put}
 use Rattle.reg_account.proofs.RowFacts.{sum_marked}
 use Rattle.reg_account.proofs.PeriodSums.{sum_of_none}
 use Rattle.reg_account.proofs.Changes.{unretired_found}
-
--- what a row adds to the figure of a year, given the period of the year
-adds_of : (rules : RulesValue) (year period : ℕ) → period_of rules year ≡ Some period → (row : RetirementRow)
-    → cond (is_row_counted rules year row) row.amount 0 ≡ amount_for period row
-adds_of rules year period is row = go row.fate where
-  go : (f : Fate) → cond (is_for_year rules year f && not row.reversed) row.amount 0
-      ≡ cond (is_for period f && not row.reversed) row.amount 0
-  go (fate.Surrendered own) =
-      ap (λ (o : Option ℕ). cond (option_map_or (λ n. eqb n own) o false && not row.reversed) row.amount 0) is
-  go fate.Deleted = refl
 
 adds_of_none : (rules : RulesValue) (year : ℕ) → period_of rules year ≡ None → (row : RetirementRow)
     → cond (is_row_counted rules year row) row.amount 0 ≡ 0
@@ -53,12 +42,6 @@ sums_alike one other alike (row ∷ rows) =
     let same = alike row in
     let more = sums_alike one other alike rows in
     omega (arith, e, o, same, more)
-
--- the surrenders for the period of a year, given the period
-pub surrendered_of : (rules : RulesValue) (a : AccountValue) (year period : ℕ) → period_of rules year ≡ Some period
-    → surrendered_for_year rules a year ≡ surrendered_in period a.rows
-surrendered_of rules a year period is = sums_alike (λ row. cond (is_row_counted rules year row) row.amount 0)
-    (amount_for period) (adds_of rules year period is) a.rows
 
 pub surrendered_of_none : (rules : RulesValue) (a : AccountValue) (year : ℕ) → period_of rules year ≡ None
     → surrendered_for_year rules a year ≡ 0
@@ -91,17 +74,6 @@ figure_fits_in (f ∷ fs) year all = go (eqb f.year year) (figure_fits_in fs yea
 abbrev pub plus : ℕ → Result ℕ FigureFault → Result ℕ FigureFault
 plus sum (Ok more) = Ok (sum + more)
 plus sum (Err fault) = Err fault
-
-pub plus_zero : (r : Result ℕ FigureFault) → plus 0 r ≡ r
-plus_zero (Ok n) = ap Ok (omega arith)
-plus_zero (Err f) = refl
-
--- the first year has none, or it is added
-pub one_missing : (a : AccountValue) (y : ℕ) (ys : List ℕ) → emissions_in a.emissions y ≡ None
-    → emitted_or_missing a (y ∷ ys) ≡ Err (Missing y)
-one_missing a y ys none =
-    ap (λ o. emitted_unless a (y ∷ ys)
-    (cond (is_none o) (Some y) (find (λ z. is_none (emissions_in a.emissions z)) ys))) none
 
 pub one_more : (a : AccountValue) (y t : ℕ) (ys : List ℕ) → emissions_in a.emissions y ≡ Some t
     → emitted_or_missing a (y ∷ ys) ≡ plus t (emitted_or_missing a ys)

@@ -9,7 +9,7 @@ use Rattle.std.specs.declared.cmp.Ordering.TheVariants.{Equal}
 use Rattle.std.proofs.lemmas.Bool.{eq-eqb, eqb-true, ne_eqb}
 use Rattle.std.proofs.lemmas.Option.{same_Some, none-some}
 use Rattle.std.proofs.lemmas.List.{length-map}
-use Rattle.std.proofs.lemmas.List.Sums.{sum_by-cons, sum_by_push}
+use Rattle.std.proofs.lemmas.List.Sums.{sum_by-cons}
 use Rattle.reg_facts.proofs.lemmas.Lists.{all-push}
 use Rattle.reg_base.specs.declared.limits.TheConstants.{MOST_RETIRED, MOST_ROWS, MOST_PERIODS}
 use Rattle.reg_base.specs.declared.kinds.AllowanceKind.{AllowanceKind}
@@ -269,43 +269,3 @@ rows_fit_pushed rows row fit later room own ranged = record {
   each = all-push RowFits rows row fit.each own;
   in_range = all-push RowIsInRange rows row fit.in_range ranged;
 }
-
--- the sums after a row was added
-pub sums_pushed : (s t : Sums) (rows : List RetirementRow) (row : RetirementRow) → SumsAgree s rows
-    → row.amount ≤ 18446744073709551615
-    → ((way : Retirement) (kind : AllowanceKind) → sum_at t way kind ≡ sum_at s way kind + amount_in way kind row)
-    → ((period : ℕ) → IsWithin 1 MOST_PERIODS period → sum_for t period ≡ sum_for s period + amount_for period row)
-    → length t.by_period ≡ MOST_PERIODS → SumsAgree t (rows ++ row ∷ [])
-sums_pushed s t rows row agree most counted counted_for eight = record {
-  at = λ way kind. counted way kind ∙ ap (λ n. n + amount_in way kind row) (agree.at way kind)
-      ∙ sym (retired_pushed way kind rows row);
-  small = λ way kind.
-      let c = counted way kind in
-      let a = agree.small way kind in
-      let l = length-append rows (row ∷ []) in
-      let m = at_most way kind row in
-      omega (arith, c, a, l, m, most);
-  eight = eight;
-  for = λ period within.
-      let c = counted_for period within in
-      let a = agree.for period within in
-      let p = sum_by_push (amount_for period) rows row in
-      omega (arith, c, a, p);
-  small_for = λ period within.
-      let c = counted_for period within in
-      let a = agree.small_for period within in
-      let l = length-append rows (row ∷ []) in
-      let m = at_most_for period row in
-      omega (arith, c, a, l, m, most);
-} where
-  at_most : (way : Retirement) (kind : AllowanceKind) (row : RetirementRow) → amount_in way kind row ≤ row.amount
-  at_most way kind row = elim (other_amount way kind row) [
-    | inl none ↦ omega (arith, none)
-    | inr own ↦ own.2
-  ]
-
-  at_most_for : (period : ℕ) (row : RetirementRow) → amount_for period row ≤ row.amount
-  at_most_for period row = go (is_for period row.fate && not row.reversed) where
-    go : (b : Bool) → cond b row.amount 0 ≤ row.amount
-    go true = omega arith
-    go false = omega arith

@@ -160,13 +160,6 @@ module _ (r : RulesValue) (count : is_period_count_wrong r ≡ false) where
   abbrev not_rising : List RulesFault
   not_rising = map (λ position. PeriodsNotRising position) (positions_from_one (first_years r.periods))
 
-  pub reversed-fault : list_any is_period_reversed r.periods ≡ true → first_period_fault r ≡ Some PeriodReversed
-  reversed-fault reversed =
-      ap (λ b. cond b (Some PeriodCount)
-      (cond (list_any is_period_reversed r.periods) (Some PeriodReversed)
-      (find (rules_have r) (not_rising ++ CurrentOutside ∷ [])))) count
-      ∙ ap (λ b. cond b (Some PeriodReversed) (find (rules_have r) (not_rising ++ CurrentOutside ∷ []))) reversed
-
   by-periods : (o : Option ℕ) → list_any is_period_reversed r.periods ≡ false
       → find (is_not_above (last_years r.periods) (first_years r.periods)) (positions_from_one (first_years r.periods))
       ≡ o
@@ -192,12 +185,6 @@ module _ (r : RulesValue) (count : is_period_count_wrong r ≡ false) where
       → first_period_fault r ≡ cond (is_current_outside r) (Some CurrentOutside) None
   current-fault standing rise =
       by-periods None standing (above-no_fall (last_years r.periods) (first_years r.periods) rise)
-
-pub count-fault : (r : RulesValue) → is_period_count_wrong r ≡ true → first_period_fault r ≡ Some PeriodCount
-count-fault r wrong = ap (λ b.
-    cond b (Some PeriodCount)
-    (find (rules_have r) (PeriodReversed ∷ map (λ position. PeriodsNotRising position)
-    (positions_from_one (first_years r.periods)) ++ CurrentOutside ∷ []))) wrong
 
 pub then-outside : (b : Bool) → then_some b CurrentOutside ≡ cond b (Some CurrentOutside) None
 then-outside true = refl

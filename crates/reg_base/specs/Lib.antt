@@ -16,3 +16,4 @@ pub mod Batch
 pub mod Words
 pub mod Sentences
 pub mod Digits
+pub mod Workers

@@ -11,13 +11,13 @@ use Rattle.reg_base.proofs.lemmas.RisesFrom.{rises_from}
 use Rattle.reg_base.proofs.lemmas.Rising.{rising-tail, rising-right, rising-left}
 use Rattle.reg_account.specs.Account.{AccountValue}
 use Rattle.reg_rules.specs.State.{State, account, numbers}
-use Rattle.reg_book.specs.Parts.{joined}
+use Rattle.reg_facts.specs.Lists.{joined_lists}
 use Rattle.reg_book.proofs.Accounts.{account_none, ascending}
 
 -- from an index on: the list that stands there, and those behind it
 pub joined-at : (lists : List (Vec AccountValue Global)) (i : ℕ) (d : Vec AccountValue Global) → i < length lists
-    → joined (drop i lists) ≡ (get_or lists i d).items ++ joined (drop (i + 1) lists)
-joined-at lists i d lt = ap joined (drop_more lists i d lt)
+    → joined_lists (drop i lists) ≡ (get_or lists i d).items ++ joined_lists (drop (i + 1) lists)
+joined-at lists i d lt = ap joined_lists (drop_more lists i d lt)
 
 -- if accounts rise, those of the first list do, and those behind it
 pub first_rise : (xs ys : State) → IsRising (numbers (xs ++ ys)) → IsRising (numbers xs)

@@ -6,7 +6,6 @@ use Rattle.std.specs.Prelude.{All, unwrap_or, option_map, slice_set}
 use Rattle.std.specs.List.{AllByRecursion}
 use Rattle.std.specs.FinMap as fin
 use Rattle.std.proofs.lemmas.List.Elements.{All-contains, All-from_recursion, recursion_from_All}
-use Rattle.std.specs.Cmp.{nat_eq_equiv}
 use Rattle.reg_base.specs.Directory.{DirectoryValue}
 use Rattle.std.proofs.lemmas.Bool.{eq-eqb, ne_eqb, eqb-false, cases_lt}
 use Rattle.std.proofs.Math.Seq.{get_or-append_seam}
@@ -49,18 +48,6 @@ set_over low (v ∷ vs) rises (suc p) w d lt e =
     let above = low_number (suc v.number) vs rises.1 p d (omega arith) in
     let differs : eqb w.number v.number ≡ false = ne_eqb w.number v.number (omega (arith, above, e)) in
     rw differs (ap (λ (ys : State). v ∷ ys) (set_over (suc v.number) vs rises.1 p w d (omega arith) e))
-
-none_later : (b : Bool) (w : AccountValue) (rest : Option AccountValue) → cond b (Some w) rest ≡ None
-    → (b ≡ false) × (rest ≡ None)
-none_later true w rest e = absurd cc
-none_later false w rest e = (refl, e)
-
-pub none_stays : (xs : State) (w : AccountValue) → account xs w.number ≡ None → overlay xs (w ∷ []) ≡ xs
-none_stays [] w none = refl
-none_stays (v ∷ vs) w none =
-    let (differs, later) = none_later (eqb v.number w.number) v (account vs w.number) none in
-    let other : eqb w.number v.number ≡ false = nat_eq_equiv.symm w.number v.number ∙ differs in
-    rw other (ap (λ (ys : State). v ∷ ys) (none_stays vs w later))
 
 -- the account found in another list has the number that it was looked up by
 number_by : (others : State) (v : AccountValue) (o : Option AccountValue) → account others v.number ≡ o

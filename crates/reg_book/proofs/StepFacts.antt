@@ -6,18 +6,10 @@ use Rattle.reg_base.specs.declared.instruction.Instruction.{Instruction}
 use Rattle.reg_base.specs.Footprint.{footprint}
 use Rattle.reg_base.proofs.lemmas.Among.{all_among}
 use Rattle.reg_rules.specs.State.{State, Setting, account, numbers}
-use Rattle.reg_rules.specs.Checks.{refusal}
 use Rattle.reg_rules.specs.Step.{step}
 use Rattle.reg_rules.specs.Laws.{StepLaws}
 
 module _ (laws : StepLaws) where
-  pub refusal-local : (c : Setting) (s t : State) (i : Instruction)
-      → AllByRecursion (λ a. account s a ≡ account t a) (footprint c.directory i.act)
-      → refusal c s i ≡ refusal c t i
-  refusal-local c s t i same =
-      laws.refusal_local c s t i
-      (All-from_recursion (λ a. account s a ≡ account t a) (footprint c.directory i.act) same)
-
   pub reply-local : (c : Setting) (s t : State) (n : ℕ) (i : Instruction)
       → AllByRecursion (λ a. account s a ≡ account t a) (footprint c.directory i.act)
       → (step c s n i).1 ≡ (step c t n i).1

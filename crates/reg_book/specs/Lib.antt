@@ -10,4 +10,3 @@ pub mod Indexes
 pub mod Marks
 pub mod Conservation
 pub mod Chains
-pub mod Parts

@@ -7,7 +7,7 @@ ghost use Rattle.reg_base.specs.declared.kinds.Retirement.TheVariants.{Surrender
 ghost use Rattle.reg_account.specs.Account.{IsAccount};
 ghost use Rattle.reg_rules.specs.State.{account, numbers};
 ghost use Rattle.reg_book.specs.Book.{overlay, AreHigher};
-ghost use Rattle.reg_book.specs.Parts.{joined};
+ghost use Rattle.reg_facts.specs.Lists.{joined_lists};
 ghost use Rattle.reg_book.specs.Totals.{totals_of};
 
 use crate::apply::{ApplyFault, carry_out};
@@ -88,7 +88,7 @@ impl Book {
 
     /// The accounts as one list, where several may stand: as [`Parts::lists`](crate::Parts::lists) has them.
     pub fn lists(&self) -> &[Vec<Account>]
-        ensures value { joined result.now ≡ self.now.accounts }
+        ensures value { joined_lists result.now ≡ self.now.accounts }
         ensures kept { IsBook self.now }
     {
         from_ref(&self.accounts)

@@ -1,7 +1,7 @@
 //! Accounts that come by rising number, on their way into a book.
 
 ghost use Rattle.std.specs.Prelude.{◌≡◌, ◌<◌, ◌∷◌, ◌++◌, [], OnOk, OnErr, vec_len, vec_capacity};
-ghost use Rattle.reg_book.specs.Parts.{joined};
+ghost use Rattle.reg_facts.specs.Lists.{joined_lists};
 
 use reg_account::Account;
 use reg_base::{AccountKind, AccountNo, HolderNo, NoMemory};
@@ -28,13 +28,13 @@ impl Model for ListedAccounts {
     ghost use Rattle.std.specs.Prelude.{◌≡◌, ◌++◌, List, map};
     ghost use Rattle.reg_account.specs.Account.{AccountValue};
     ghost use Rattle.reg_book.specs.Book.{entry_of};
-    ghost use Rattle.reg_book.specs.Parts.{joined};
+    ghost use Rattle.reg_facts.specs.Lists.{joined_lists};
 
     ghost Value = { List AccountValue };
 
-    ghost view = { λ l. joined l.before.items ++ l.last.items };
+    ghost view = { λ l. joined_lists l.before.items ++ l.last.items };
 
-    ghost invariant = { λ l. l.entries.items ≡ map entry_of (joined l.before.items ++ l.last.items) };
+    ghost invariant = { λ l. l.entries.items ≡ map entry_of (joined_lists l.before.items ++ l.last.items) };
 }
 
 impl ListedAccounts {
@@ -118,7 +118,7 @@ impl ListedAccounts {
     pub(crate) fn into_lists(
         self,
     ) -> Result<(Vec<Vec<Account>>, Vec<(AccountNo, (AccountKind, HolderNo))>), (Self, NoMemory)>
-        ensures accounts { IfOk result (λ parts. joined parts.0.items ≡ self) }
+        ensures accounts { IfOk result (λ parts. joined_lists parts.0.items ≡ self) }
         ensures entries { IfOk result (λ parts. parts.1.items ≡ map entry_of self) }
         ensures back { IfErr result (λ e. e.0 ≡ self) }
     {
@@ -166,7 +166,7 @@ fn make_room(list: &mut Vec<Account>, size: usize) -> Result<(), NoMemory>
 
 // Puts the last list behind those before it, and begins an empty one. Whatever comes of it, the accounts stay.
 fn begin_list(before: &mut Vec<Vec<Account>>, last: &mut Vec<Account>) -> Result<(), NoMemory>
-    ensures same { joined before.new.items ++ last.new.items ≡ joined before.old.items ++ last.old.items }
+    ensures same { joined_lists before.new.items ++ last.new.items ≡ joined_lists before.old.items ++ last.old.items }
     ensures empty { OnOk result (last.new.items ≡ []) }
 {
     before.reserve(1)?;
@@ -182,10 +182,10 @@ fn put_behind(
     others: Vec<Vec<Account>>,
     last_of_others: Vec<Account>,
 ) -> Result<(), NoMemory>
-    ensures ok { OnOk result (joined before.new.items ++ last.new.items
-        ≡ (joined before.old.items ++ last.old.items) ++ (joined others.items ++ last_of_others.items)) }
+    ensures ok { OnOk result (joined_lists before.new.items ++ last.new.items
+        ≡ (joined_lists before.old.items ++ last.old.items) ++ (joined_lists others.items ++ last_of_others.items)) }
     ensures err { OnErr result
-        (joined before.new.items ++ last.new.items ≡ joined before.old.items ++ last.old.items) }
+        (joined_lists before.new.items ++ last.new.items ≡ joined_lists before.old.items ++ last.old.items) }
 {
     begin_list(before, last)?;
     let mut others = others;

@@ -6,7 +6,7 @@ ghost use Rattle.reg_base.specs.Rising.{IsRising};
 ghost use Rattle.reg_base.specs.declared.limits.TheConstants.{MOST_ACCOUNTS};
 ghost use Rattle.reg_account.specs.Account.{IsAccount};
 ghost use Rattle.reg_rules.specs.State.{account, numbers};
-ghost use Rattle.reg_book.specs.Parts.{joined};
+ghost use Rattle.reg_facts.specs.Lists.{joined_lists};
 ghost use Rattle.reg_book.specs.Totals.{totals_of};
 
 use crate::book::{Book, get_account};
@@ -39,13 +39,13 @@ pub struct ClosedParts {
 
 impl Model for Parts {
     ghost use Rattle.reg_book.specs.Book.{BookValue, IsBookKept};
-    ghost use Rattle.reg_book.specs.Parts.{joined};
+    ghost use Rattle.reg_facts.specs.Lists.{joined_lists};
 
     ghost Value = { BookValue };
 
-    ghost view = { λ p. record { accounts = joined p.lists.items; next = p.next } };
+    ghost view = { λ p. record { accounts = joined_lists p.lists.items; next = p.next } };
 
-    ghost invariant = { λ p. IsBookKept (joined p.lists.items) p.directory p.next };
+    ghost invariant = { λ p. IsBookKept (joined_lists p.lists.items) p.directory p.next };
 }
 
 impl Parts {
@@ -55,8 +55,8 @@ impl Parts {
     /// [`Parts::into_lists`] took apart, or what a day made of it. The accounts stand by rising number, one list after
     /// another. Takes no memory.
     pub fn of_lists(lists: Vec<Vec<Account>>, directory: Directory, next: u64) -> Self
-        requires { IsBookKept (joined lists.items) directory next }
-        ensures { result ≡ record { accounts = joined lists.items; next = next } }
+        requires { IsBookKept (joined_lists lists.items) directory next }
+        ensures { result ≡ record { accounts = joined_lists lists.items; next = next } }
     {
         Parts {
             lists,
@@ -134,7 +134,7 @@ impl Parts {
 
     /// The lists of its accounts, their directory and the next record number. Takes no memory.
     pub fn into_lists(self) -> (Vec<Vec<Account>>, Directory, u64)
-        ensures accounts { joined result.0.items ≡ self.accounts }
+        ensures accounts { joined_lists result.0.items ≡ self.accounts }
         ensures directory { result.1 ≡ directory_of self.accounts }
         ensures next { result.2 ≡ self.next }
         ensures kept { IsBook self }
@@ -149,7 +149,7 @@ impl Parts {
 
     /// The lists of its accounts.
     pub fn lists(&self) -> &[Vec<Account>]
-        ensures value { joined result.now ≡ self.now.accounts }
+        ensures value { joined_lists result.now ≡ self.now.accounts }
         ensures kept { IsBook self.now }
     {
         self.lists.as_slice()
@@ -196,8 +196,8 @@ fn count_accounts(lists: &[Vec<Account>]) -> usize {
 
 // Moves the accounts of lists behind others. Whatever comes of it, all the accounts stay, in their order.
 fn put_behind(all: &mut Vec<Account>, lists: &mut [Vec<Account>]) -> Result<(), NoMemory>
-    ensures same { all.new.items ++ joined lists.new ≡ all.old.items ++ joined lists.old }
-    ensures moved { OnOk result (joined lists.new ≡ []) }
+    ensures same { all.new.items ++ joined_lists lists.new ≡ all.old.items ++ joined_lists lists.old }
+    ensures moved { OnOk result (joined_lists lists.new ≡ []) }
 {
     let Some((list, behind)) = lists.split_first_mut() else {
         return Ok(());
@@ -210,7 +210,7 @@ fn put_behind(all: &mut Vec<Account>, lists: &mut [Vec<Account>]) -> Result<(), 
 // memory ran out, the lists have the same accounts as before.
 fn join(alloc: Global, lists: &mut [Vec<Account>]) -> Result<Vec<Account>, NoMemory>
     ensures { MatchResult result
-        (λ all. all.items ≡ joined lists.old) (λ _. joined lists.new ≡ joined lists.old) }
+        (λ all. all.items ≡ joined_lists lists.old) (λ _. joined_lists lists.new ≡ joined_lists lists.old) }
 {
     let count = count_accounts(lists);
     let Some((first, behind)) = lists.split_first_mut() else {
@@ -223,8 +223,8 @@ fn join(alloc: Global, lists: &mut [Vec<Account>]) -> Result<Vec<Account>, NoMem
 
 // The account with this number, if one of the lists has it.
 fn get_in_lists(lists: &[Vec<Account>], number: AccountNo) -> Option<&Account>
-    requires { IsRising (numbers (joined lists.now)) }
-    ensures { option_copied result ≡ account (joined lists.now) number }
+    requires { IsRising (numbers (joined_lists lists.now)) }
+    ensures { option_copied result ≡ account (joined_lists lists.now) number }
 {
     for list in lists {
         if let Some(found) = get_up_to(list, number) {
@@ -259,9 +259,9 @@ fn ends_below(list: &[Account], number: AccountNo) -> bool
 /// What the accounts of lists together hold, have surrendered and have deleted, of both kinds. They are as few as those
 /// of a book. Takes no memory.
 pub fn add_up_lists(lists: &[Vec<Account>]) -> BothTotals
-    requires fit { All IsAccount (joined lists.now) }
-    requires few { length (joined lists.now) ≤ MOST_ACCOUNTS }
-    ensures { result ≡ totals_of (joined lists.now) }
+    requires fit { All IsAccount (joined_lists lists.now) }
+    requires few { length (joined_lists lists.now) ≤ MOST_ACCOUNTS }
+    ensures { result ≡ totals_of (joined_lists lists.now) }
 {
     let mut totals = BothTotals::none();
     for list in lists {

@@ -331,9 +331,6 @@ look-allowed n slots id me lives s t homes at small =
       (refl, refl, later n s.words s.views id me.0 k at lives c (omega arith) (omega arith) (λ o. o) refl),
     )
 
-or-most : (c : ℕ) → bit_or c 1 / 2 ≡ c / 2 → bit_or c 1 ≤ c + 1
-or-most c h = omega arith
-
 pub stop-allowed : (n slots id : ℕ) (me : Known) → 0 < me.0.stake
     → Allows (Holds n) slots id me 0 (λ x. bit_or x 1) (StopStep me)
 stop-allowed n slots id me lives s t homes at small =

@@ -1,9 +1,10 @@
-//! Words for counting in lists, and the facts about plain lists, numbers and sums that proofs of several crates cite.
-//! There is no code here. It uses nothing but `std`: each edit of `reg_claim` loads it.
+//! Words for counting in lists and joining them, and the facts about plain lists, numbers and sums that proofs of
+//! several crates cite. There is no code here. It uses nothing but `std`: each edit of `reg_claim` loads it.
 //!
 //! | where | what |
 //! |---|---|
 //! | `specs/Counting.antt` | the sum of a number over a list, how often a number stands in one |
+//! | `specs/Lists.antt` | the items of lists, one list after another; the first numbers |
 //! | `proofs/lemmas/Lists.antt` | what holds of each element of a list, an element by its index, swaps |
 //! | `proofs/lemmas/Members.antt` | the elements of a list one by one: in another order, behind a filter or a search |
 //! | `proofs/lemmas/Numbers.antt` | how two numbers compare; no test is both true and false |

@@ -1,13 +1,12 @@
 -- The first line of a text tells an offset.
 use Rattle.std.proofs.Common.{◌≡◌, ℕ, suc, ◌<◌, List, ◌∷◌, ◌++◌, length, take, drop, Option, Some, None, IfSome}
 use Rattle.std.proofs.Common.{slice_index, sym, subst, ap, ◌∙◌, append_assoc, codes}
-use Rattle.std.proofs.Common.{◌≤◌, ◌^◌, [], decimal, arith, length-append, eqb-true}
-use Rattle.std.proofs.lemmas.Fmt.{length-decimal-le}
+use Rattle.std.proofs.Common.{eqb-true}
 use Rattle.std.proofs.Math.Seq.{split_at}
 use Rattle.std.specs.Io.KnownBytes.{Consumes}
 use Rattle.std.specs.Str.Parse.{IsNumeral, without_leading_plus}
 use Rattle.memchr.specs.Find.{IsFirstByte, is_byte}
-use Rattle.reg_front.specs.Ranges.{TellsOffset, most_offset_line, word_number}
+use Rattle.reg_front.specs.Ranges.{TellsOffset, word_number}
 
 -- a head, and behind it a line up to its end
 line_is : (text head line : List ℕ) (end : ℕ) → text ≡ head ++ line → end < length line → slice_index line end ≡ 10
@@ -44,11 +43,3 @@ front_told None rest front (Some n) consumed told = tt
 front_told (Some text) None front (Some n) consumed told = absurd consumed
 front_told (Some text) (Some rest) front (Some n) consumed told =
     subst (λ l. TellsOffset l n) (sym consumed) (front_tells front rest n told)
-
--- the line of each offset has space in so many bytes
-pub line_fits : (n : ℕ) → n < 2 ^ 64 → length (codes "pos:\t" ++ decimal n ++ 10 ∷ []) ≤ most_offset_line
-line_fits n low =
-    let digits : length (decimal n) ≤ 20 = length-decimal-le 20 n (omega arith) (omega (arith, low)) low in
-    let long = length-append (codes "pos:\t" ++ decimal n) (10 ∷ []) in
-    let front = length-append (codes "pos:\t") (decimal n) in
-    omega (arith, long, front, digits)

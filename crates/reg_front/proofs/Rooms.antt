@@ -1,9 +1,9 @@
 -- A text of which the first bytes are filled, and what a call of `read` gives behind them.
-use Rattle.std.proofs.Common.{◌≡◌, ℕ, ◌+◌, ◌<◌, List, ◌++◌, Option, Result, Ok, Err, IfOk, OnErr, length, take, drop}
+use Rattle.std.proofs.Common.{◌≡◌, ℕ, ◌+◌, List, ◌++◌, Option, Result, Ok, Err, IfOk, length, take, drop}
 use Rattle.std.proofs.Common.{ap, sym, ◌∙◌, subst, take-add, drop_at}
 use Rattle.std.proofs.lemmas.List.{take-append-le}
 use Rattle.std.specs.Io.{ReadsAtMost}
-use Rattle.std.specs.Io.KnownBytes.{Consumes, IsAtEnd, Keeps, ReadConsumes}
+use Rattle.std.specs.Io.KnownBytes.{Consumes, ReadConsumes}
 use Rattle.std.proofs.KnownBytes.{Consumes-trans}
 
 -- the bytes that a call gave stand behind the front
@@ -14,18 +14,6 @@ given_behind a b (Ok n) front room rest filled long fits read =
     subst (Consumes a b) (sym (ap (take n) (drop_at front (room ++ rest) filled long)
     ∙ take-append-le n room rest fits.0)) read.0
 given_behind a b (Err e) front room rest filled long fits read = tt
-
--- it gave none only at the end
-pub end_of : {E : Type 0} (a b : Option (List ℕ)) (r : Result ℕ E) (room : List ℕ) → ReadConsumes a b r room
-    → 0 < length room → IfOk r (λ n. n ≡ 0 → IsAtEnd b)
-end_of a b (Ok n) room read some = λ none. read.1 none some
-end_of a b (Err e) room read some = tt
-
--- a call that failed gave none
-pub kept_of : {E : Type 0} (a b : Option (List ℕ)) (r : Result ℕ E) (room : List ℕ) → ReadConsumes a b r room
-    → OnErr r (Keeps a b)
-kept_of a b (Ok n) room read = tt
-kept_of a b (Err e) room read = read
 
 -- xs was filled up to f; zs with more room has the same front, and so has ys, with n bytes more
 pub filled_more : (a b c : Option (List ℕ)) (xs ys zs zs' : List ℕ) (f n : ℕ) → take f zs ≡ take f xs → zs' ≡ zs

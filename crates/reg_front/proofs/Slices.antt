@@ -26,9 +26,3 @@ whole None text a b order range end = tt
 whole (Some xs) text a b order range end =
     let long = length-drop a xs in
     range ∙ take_all (b - a) (drop a xs) (omega (arith, long, order, end))
-
--- how many bytes it has
-pub few : (known : Option (List ℕ)) (a b limit : ℕ) → b - a ≤ limit → IfSome known (λ xs. length xs ≤ b)
-    → IfSome known (λ xs. length (drop a xs) ≤ limit)
-few None a b limit low end = tt
-few (Some xs) a b limit low end = let long = length-drop a xs in omega (arith, long, low, end)

@@ -3,7 +3,7 @@ pub mod Devices
 pub mod Faulting
 pub mod Faults
 pub mod Lines
-pub mod Questions
+pub mod Made
 pub mod Ranges
 pub mod Ranging
 pub mod Runs

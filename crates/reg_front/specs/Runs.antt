@@ -4,7 +4,7 @@ use Rattle.std.specs.Io.KnownBytes.{Appends}
 use Rattle.reg_book.specs.Book.{BookValue}
 use Rattle.reg_book.specs.Day.{DayValue, log_of}
 use Rattle.reg_book.specs.Chains.{book_after}
-use Rattle.reg_regions.specs.Outcomes.{may_work}
+use Rattle.reg_base.specs.Workers.{may_work}
 use Rattle.reg_cuts.specs.Rows.{rows_in_text}
 use Rattle.reg_text.specs.Faults.{day_of_rows}
 use Rattle.reg_text.specs.Reading.{IsReading}

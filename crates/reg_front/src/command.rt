@@ -22,19 +22,3 @@ pub enum Command {
     /// Settles the day and writes the totals after it.
     Totals,
 }
-
-// What a command asks of a day that needs no workers.
-#[derive(Clone, Copy, Debug, PartialEq, Eq)]
-pub(crate) enum Question {
-    // Which instructions have to wait for which others.
-    Plan,
-    // What an account held before the day, its log rows, and what it holds after.
-    Statement {
-        // The account.
-        account: AccountNo,
-    },
-    // The determined compliance figures of all accounts after the day.
-    Figures,
-    // The totals after the day.
-    Totals,
-}

@@ -2,26 +2,21 @@
 
 ghost use Rattle.std.specs.Prelude.{◌≡◌, true};
 ghost use Rattle.std.specs.Result.{result_err};
-ghost use Rattle.reg_regions.specs.Outcomes.{may_work};
+ghost use Rattle.reg_base.specs.Workers.{may_work};
 ghost use Rattle.reg_front.specs.Streams.{CanFail};
-ghost use Rattle.reg_front.specs.declared.command.Command.TheVariants.{Figures, Plan, Settle, Statement, Totals};
 ghost use Rattle.reg_front.specs.Runs.{CarriesOut};
-ghost use Rattle.reg_front.specs.Questions.{command_of};
 ghost use Rattle.reg_front.specs.Ranging.{ranged_stream};
 
-use crate::command::{Command, Question};
-use crate::device::write_all;
+use crate::command::Command;
 use crate::fault::FrontFault;
 use crate::input::read_input;
 use crate::pieces::write_pieces;
 use crate::ranged::Ranged;
 use crate::ranges::ReadAt;
 use crate::stream::{Sink, Source};
-use crate::texts::{Used, make_answer, make_report, threads_for};
-use reg_base::AccountNo;
+use crate::texts::{Used, make_text};
 use std::alloc::Global;
 use std::io::Read;
-use std::sync::Wait;
 use std::thread::Threads;
 use std::{mem, thread};
 
@@ -38,8 +33,9 @@ use std::{mem, thread};
 ///   then been written.
 ///
 /// A failed call is not tried again. After all faults except `WriteFailed`, nothing has been written. That a thread
-/// can't be started is no fault: the others do its work. So `NoThread` is never answered.
-pub fn run<T: Threads + Wait + Sync, R: Source, W: Sink>(
+/// can't be started is no fault: the others do its work. So `NoThread` is never answered. Threads are started, and
+/// joined, and none waits for another one: this call returns, if those of the reader and the writer do.
+pub fn run<T: Threads + Sync, R: Source, W: Sink>(
     rt: &T,
     alloc: Global,
     reader: &mut R,
@@ -51,86 +47,7 @@ pub fn run<T: Threads + Wait + Sync, R: Source, W: Sink>(
     ensures { CarriesOut command (result_err result) (R.stream reader.old) (R.stream reader.new) (W.stream writer.old)
         (W.stream writer.new) }
 {
-    run_and_keep(rt, alloc, reader, writer, command)?;
-    Ok(())
-}
-
-/// Does what [`run`] does for [`Command::Plan`]. Threads read the text by parts, as many as there are processors, at
-/// most 8, and are joined. None of them waits for another one, so this call returns, if those of the reader and the
-/// writer do.
-///
-/// # Errors
-/// As [`run`], but never `Workers` or `NoAccount`.
-pub fn run_plan<T: Threads + Sync, R: Source, W: Sink>(
-    rt: &T,
-    alloc: Global,
-    reader: &mut R,
-    writer: &mut W,
-) -> Result<(), FrontFault>
-    requires reader { CanFail (R.stream reader.old) }
-    requires writer { CanFail (W.stream writer.old) }
-    ensures { CarriesOut Plan (result_err result) (R.stream reader.old) (R.stream reader.new) (W.stream writer.old)
-        (W.stream writer.new) }
-{
-    answer(rt, alloc, reader, writer, &Question::Plan)?;
-    Ok(())
-}
-
-/// Does what [`run`] does for [`Command::Statement`]. It waits for nobody, as [`run_plan`].
-///
-/// # Errors
-/// As [`run`], but never `Workers`.
-pub fn run_statement<T: Threads + Sync, R: Source, W: Sink>(
-    rt: &T,
-    alloc: Global,
-    reader: &mut R,
-    writer: &mut W,
-    account: AccountNo,
-) -> Result<(), FrontFault>
-    requires reader { CanFail (R.stream reader.old) }
-    requires writer { CanFail (W.stream writer.old) }
-    ensures { CarriesOut (Statement account) (result_err result) (R.stream reader.old) (R.stream reader.new)
-        (W.stream writer.old) (W.stream writer.new) }
-{
-    answer(rt, alloc, reader, writer, &Question::Statement { account })?;
-    Ok(())
-}
-
-/// Does what [`run`] does for [`Command::Figures`]. It waits for nobody, as [`run_plan`].
-///
-/// # Errors
-/// As [`run_plan`].
-pub fn run_figures<T: Threads + Sync, R: Source, W: Sink>(
-    rt: &T,
-    alloc: Global,
-    reader: &mut R,
-    writer: &mut W,
-) -> Result<(), FrontFault>
-    requires reader { CanFail (R.stream reader.old) }
-    requires writer { CanFail (W.stream writer.old) }
-    ensures { CarriesOut Figures (result_err result) (R.stream reader.old) (R.stream reader.new) (W.stream writer.old)
-        (W.stream writer.new) }
-{
-    answer(rt, alloc, reader, writer, &Question::Figures)?;
-    Ok(())
-}
-
-/// Does what [`run`] does for [`Command::Totals`]. It waits for nobody, as [`run_plan`].
-///
-/// # Errors
-/// As [`run_plan`].
-pub fn run_totals<T: Threads + Sync, R: Source, W: Sink>(
-    rt: &T,
-    alloc: Global,
-    reader: &mut R,
-    writer: &mut W,
-) -> Result<(), FrontFault>
-    requires reader { CanFail (R.stream reader.old) }
-    requires writer { CanFail (W.stream writer.old) }
-    ensures { CarriesOut Totals (result_err result) (R.stream reader.old) (R.stream reader.new) (W.stream writer.old)
-        (W.stream writer.new) }
-{
-    answer(rt, alloc, reader, writer, &Question::Totals)?;
+    run_and_keep(rt, alloc, reader, writer, &command)?;
     Ok(())
 }
 
@@ -141,7 +58,7 @@ pub fn run_totals<T: Threads + Sync, R: Source, W: Sink>(
 /// # Errors
 /// As [`run`].
 pub fn run_without_freeing<
-    T: Threads + Wait + Sync,
+    T: Threads + Sync,
     R: Source,
     F: ReadAt + Sync + Drop,
     S: Read + Drop,
@@ -158,92 +75,41 @@ pub fn run_without_freeing<
     ensures { CarriesOut command (result_err result) (ranged_stream R.stream reader.old)
         (ranged_stream R.stream reader.new) (W.stream writer.old) (W.stream writer.new) }
 {
-    reader.read_ahead(rt, alloc, threads_of(rt, &command));
-    mem::forget(run_and_keep(rt, alloc, reader, writer, command)?);
+    reader.read_ahead(rt, alloc, threads_of(rt, &command) as usize);
+    mem::forget(run_and_keep(rt, alloc, reader, writer, &command)?);
     Ok(())
 }
 
-// By how many threads a command reads its input.
-fn threads_of<T: Threads>(rt: &T, command: &Command) -> usize {
-    match command {
-        Command::Settle { workers } => threads_for(*workers),
-        Command::Plan | Command::Statement { .. } | Command::Figures | Command::Totals => {
-            threads_for(count_threads(rt))
-        }
-    }
-}
-
 // Runs the command, and answers what it has used.
-fn run_and_keep<T: Threads + Wait + Sync, R: Source, W: Sink>(
+fn run_and_keep<T: Threads + Sync, R: Source, W: Sink>(
     rt: &T,
     alloc: Global,
     reader: &mut R,
     writer: &mut W,
-    command: Command,
+    command: &Command,
 ) -> Result<Used, FrontFault>
     requires reader { CanFail (R.stream reader.old) }
     requires writer { CanFail (W.stream writer.old) }
-    ensures { CarriesOut command (result_err result) (R.stream reader.old) (R.stream reader.new) (W.stream writer.old)
-        (W.stream writer.new) }
-{
-    match command {
-        Command::Settle { workers } => settle(rt, alloc, reader, writer, workers),
-        Command::Plan => answer(rt, alloc, reader, writer, &Question::Plan),
-        Command::Statement { account } => {
-            answer(rt, alloc, reader, writer, &Question::Statement { account })
-        }
-        Command::Figures => answer(rt, alloc, reader, writer, &Question::Figures),
-        Command::Totals => answer(rt, alloc, reader, writer, &Question::Totals),
-    }
-}
-
-// Reads the day, settles it by workers, and writes the report.
-fn settle<T: Threads + Wait + Sync, R: Source, W: Sink>(
-    rt: &T,
-    alloc: Global,
-    reader: &mut R,
-    writer: &mut W,
-    workers: u32,
-) -> Result<Used, FrontFault>
-    requires reader { CanFail (R.stream reader.old) }
-    requires writer { CanFail (W.stream writer.old) }
-    ensures { CarriesOut (Settle workers) (result_err result) (R.stream reader.old) (R.stream reader.new)
+    ensures { CarriesOut command.now (result_err result) (R.stream reader.old) (R.stream reader.new)
         (W.stream writer.old) (W.stream writer.new) }
 {
-    let (day, input) = read_input(rt, alloc, reader, threads_for(workers))?;
-    let used = make_report(rt, alloc, day, input, workers)?;
+    let threads = threads_of(rt, command);
+    let (day, memory) = read_input(rt, alloc, reader, threads as usize)?;
+    let used = make_text(rt, alloc, day, memory, command, threads)?;
     if write_pieces(writer, used.pieces.as_slice(), used.text.as_slice()).is_err() {
         return Err(FrontFault::WriteFailed);
     }
     Ok(used)
 }
 
-// Reads the day, and writes the text that answers the question.
-fn answer<T: Threads + Sync, R: Source, W: Sink>(
-    rt: &T,
-    alloc: Global,
-    reader: &mut R,
-    writer: &mut W,
-    question: &Question,
-) -> Result<Used, FrontFault>
-    requires reader { CanFail (R.stream reader.old) }
-    requires writer { CanFail (W.stream writer.old) }
-    ensures { CarriesOut (command_of question.now) (result_err result) (R.stream reader.old) (R.stream reader.new)
-        (W.stream writer.old) (W.stream writer.new) }
-{
-    let threads = count_threads(rt);
-    let (day, input) = read_input(rt, alloc, reader, threads_for(threads))?;
-    let used = make_answer(rt, alloc, day, input, question, threads)?;
-    if write_all(writer, used.text.as_slice()).is_err() {
-        return Err(FrontFault::WriteFailed);
-    }
-    Ok(used)
-}
-
-// The number of threads that answer a question: as many as there are processors, at most 8.
-fn count_threads<T: Threads>(rt: &T) -> u32
+// By how many threads a command reads its input and makes its text: a settlement by as many as it has workers, within
+// their limits, and anything else by as many as there are processors, at most 8.
+fn threads_of<T: Threads>(rt: &T, command: &Command) -> u32
     ensures { may_work result ≡ true }
 {
+    if let Command::Settle { workers } = *command {
+        return workers.clamp(1, 8);
+    }
     let Ok(count) = thread::available_parallelism(rt) else {
         return 1;
     };

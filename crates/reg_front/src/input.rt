@@ -10,6 +10,7 @@ ghost use Rattle.reg_front.specs.Runs.{IsReadingFault, Reads};
 
 use crate::device::read_all;
 use crate::fault::FrontFault;
+use crate::memory::Memory;
 use crate::stream::Source;
 use reg_text::{DayParts, LEAST_PART, read_day_in_lists, read_day_of_pieces};
 use std::alloc::Global;
@@ -21,7 +22,7 @@ fn read_text<T: Threads + Sync, R: Source>(
     alloc: Global,
     reader: &mut R,
     threads: usize,
-) -> Result<(DayParts, Vec<u8>), FrontFault>
+) -> Result<(DayParts, Memory), FrontFault>
     requires { CanFail (R.stream reader.old) }
     ensures ok { IfOk result
         (λ read. IfSome (R.stream reader.old).bytes (λ input. IsReading (rows_in_text input) (day_of_parts read.0))) }
@@ -32,17 +33,17 @@ fn read_text<T: Threads + Sync, R: Source>(
 {
     let input = read_all(alloc, reader)?;
     let day = read_day_in_lists(rt, alloc, input.as_slice(), threads, LEAST_PART)?;
-    Ok((day, input))
+    Ok((day, Memory::Text(input)))
 }
 
 /// The day that the whole input describes, read by at most so many threads, and the bytes of the input, whose memory is
-/// used again for the output. Those of an input that was read in pieces are given back.
+/// used again for the output.
 pub(crate) fn read_input<T: Threads + Sync, R: Source>(
     rt: &T,
     alloc: Global,
     reader: &mut R,
     threads: usize,
-) -> Result<(DayParts, Vec<u8>), FrontFault>
+) -> Result<(DayParts, Memory), FrontFault>
     requires { CanFail (R.stream reader.old) }
     ensures ok { IfOk result
         (λ read. IfSome (R.stream reader.old).bytes (λ input. IsReading (rows_in_text input) (day_of_parts read.0))) }
@@ -54,7 +55,7 @@ pub(crate) fn read_input<T: Threads + Sync, R: Source>(
     match reader.take_pieces() {
         Some(pieces) => {
             let day = read_day_of_pieces(rt, alloc, pieces.as_slice())?;
-            Ok((day, Vec::new(alloc)))
+            Ok((day, Memory::Pieces(pieces)))
         }
         None => read_text(rt, alloc, reader, threads),
     }

@@ -9,14 +9,14 @@
 //! ghost use Rattle.reg_front.specs.Runs.{WritesText};
 //! ghost use Rattle.reg_front.specs.declared.command.Command.TheVariants.{Totals};
 //!
-//! use reg_front::{Counted, FrontFault, Sink, run_totals};
+//! use reg_front::{Command, Counted, FrontFault, Sink, run};
 //! use std::alloc::Global;
 //! use std::thread::Threads;
 //!
 //! /// Settles the day of a text, and writes the totals after it.
 //! ///
 //! /// # Errors
-//! /// As [`run_totals`].
+//! /// As [`run`].
 //! pub fn write_totals<T: Threads + Sync, W: Sink>(
 //!     rt: &T,
 //!     alloc: Global,
@@ -28,7 +28,7 @@
 //!         (W.stream writer.new).bytes) }
 //! {
 //!     let mut reader = Counted::new(text);
-//!     run_totals(rt, alloc, &mut reader, writer)
+//!     run(rt, alloc, &mut reader, writer, Command::Totals)
 //! }
 //! ```
 #![tactic(auto)]
@@ -43,6 +43,7 @@ mod fault;
 mod faulty;
 mod input;
 mod line;
+mod memory;
 mod offset;
 mod pieces;
 mod ranged;
@@ -52,7 +53,7 @@ mod texts;
 
 pub use command::Command;
 pub use counted::Counted;
-pub use engine::{run, run_figures, run_plan, run_statement, run_totals, run_without_freeing};
+pub use engine::{run, run_without_freeing};
 pub use fault::FrontFault;
 pub use faulty::Faulty;
 pub use line::tell_fault;

@@ -3,22 +3,22 @@
 ghost use Rattle.std.specs.Prelude.{◌≡◌, ◌≤◌, ◌+◌, ◌++◌, [], true, None, IfOk, MatchResult};
 ghost use Rattle.reg_book.specs.Chains.{book_after};
 ghost use Rattle.reg_book.specs.Day.{day_of, settled_day, log_of, replies_of, rows_replied};
-ghost use Rattle.reg_regions.specs.Outcomes.{may_work};
+ghost use Rattle.reg_base.specs.Workers.{may_work};
 ghost use Rattle.reg_text.specs.Inputs.{day_of_input, day_of_parts};
 ghost use Rattle.reg_text.specs.NextDays.{report_of};
-ghost use Rattle.reg_text.specs.Pieces.{text_of_pieces};
 ghost use Rattle.reg_text.specs.Report.{report_rows, text_of};
 ghost use Rattle.reg_text.specs.Determined.{figures_rows};
 ghost use Rattle.reg_text.specs.Totals.{totals_rows};
 ghost use Rattle.reg_text.specs.Statement.{statement_of, has_account};
 ghost use Rattle.reg_front.specs.declared.command.Command.TheVariants.{Settle, Statement};
 ghost use Rattle.reg_front.specs.declared.fault.FrontFault.TheVariants as front;
-ghost use Rattle.reg_front.specs.Questions.{command_of};
+ghost use Rattle.reg_front.specs.Made.{text_made};
 ghost use Rattle.reg_text.specs.PlanText.{IsPlanText};
 ghost use Rattle.reg_front.specs.Runs.{command_fault, IsTextFor, IsCommandFault};
 
-use crate::command::Question;
+use crate::command::Command;
 use crate::fault::FrontFault;
+use crate::memory::Memory;
 use reg_base::{AccountNo, Batch, NoMemory, Rules};
 use reg_book::{
     ClosedDay, ClosedParts, Parts, SettleFault, Settled, log_is_made_again, settle_in_place,
@@ -54,73 +54,64 @@ pub(crate) struct Used {
     closed: Closed,
 }
 
-/// The text that answers a question of a day. `bytes` are no longer needed: a text of figures takes their memory, and
-/// for another one it is given back before.
+/// The text of a command for a day, made by so many threads; by workers, if these settle it. The input that lay in
+/// `memory` is no longer needed: a report and a text of figures take its memory, and for another text it is given back.
 ///
 /// # Errors
-/// `NoAccount` if the account of a statement is not in the book. Otherwise `NoMemory` if memory ran out.
-pub(crate) fn make_answer<T: Threads + Sync>(
+/// `Workers` if the number of workers is not 1 to 8, and `NoAccount` if the account of a statement is not in the book.
+/// Otherwise `NoMemory` if memory ran out. That a thread can't be started is no error.
+pub(crate) fn make_text<T: Threads + Sync>(
     rt: &T,
     alloc: Global,
     day: DayParts,
-    bytes: Vec<u8>,
-    question: &Question,
+    memory: Memory,
+    command: &Command,
     threads: u32,
 ) -> Result<Used, FrontFault>
     requires follows { day.batch.base + 1 ≡ day.parts.next }
     requires threads { may_work threads ≡ true }
     ensures { MatchResult result
-        (λ used. (command_fault (command_of question.now) day.parts ≡ None)
-        × IsTextFor (command_of question.now) (day_of_parts day) used.text.items)
-        (IsCommandFault (command_of question.now) day.parts) }
+        (λ used. (command_fault command.now day.parts ≡ None)
+        × IsTextFor command.now (day_of_parts day) (text_made used))
+        (IsCommandFault command.now day.parts) }
 {
-    match *question {
-        Question::Plan => {
-            drop(bytes);
+    match *command {
+        Command::Settle { workers: 1 } => {
+            make_report_in_place(alloc, day, memory.into_text(alloc))
+        }
+        Command::Settle { workers } => {
+            make_report(rt, alloc, day, memory.into_pieces(alloc), workers)
+        }
+        Command::Figures => make_figures(rt, alloc, day, memory.into_text(alloc), threads),
+        Command::Plan => {
+            drop(memory);
             make_plan(rt, alloc, &day, threads)
         }
-        Question::Statement { account } => {
-            drop(bytes);
+        Command::Statement { account } => {
+            drop(memory);
             make_statement(alloc, day, account)
         }
-        Question::Figures => make_figures(rt, alloc, day, bytes, threads),
-        Question::Totals => {
-            drop(bytes);
+        Command::Totals => {
+            drop(memory);
             make_totals(rt, alloc, day, threads)
         }
     }
 }
 
-/// The number of threads that read the input and spell the report for so many workers: within the limits of workers.
-pub(crate) fn threads_for(workers: u32) -> usize
-    ensures { 1 ≤ result }
-{
-    workers.clamp(1, 8) as usize
-}
-
-/// The report of the day, settled by workers. One worker settles it on its own book, and its report takes the place of
-/// bytes that are no longer needed. Several workers also spell the report, in pieces; the bytes are given back before.
-///
-/// # Errors
-/// `Workers` if the number of workers is not 1 to 8. Otherwise `NoMemory` if memory ran out. That a thread can't be
-/// started is no error.
-pub(crate) fn make_report<T: Threads + Sync>(
+// The report of the day, settled by workers, who also spell it, in pieces, in the place of texts that are no longer
+// needed.
+fn make_report<T: Threads + Sync>(
     rt: &T,
     alloc: Global,
     day: DayParts,
-    bytes: Vec<u8>,
+    spare: Vec<Vec<u8>>,
     workers: u32,
 ) -> Result<Used, FrontFault>
     requires { day.batch.base + 1 ≡ day.parts.next }
     ensures { MatchResult result
-        (λ used. (may_work workers ≡ true)
-        × (text_of_pieces used.pieces.items ++ used.text.items ≡ report_of (day_of_parts day)))
+        (λ used. (command_fault (Settle workers) day.parts ≡ None) × (text_made used ≡ report_of (day_of_parts day)))
         (IsCommandFault (Settle workers) day.parts) }
 {
-    if workers == 1 {
-        return make_report_in_place(alloc, day, bytes);
-    }
-    drop(bytes);
     log_is_made_again();
     let DayParts {
         rules,
@@ -128,24 +119,25 @@ pub(crate) fn make_report<T: Threads + Sync>(
         batch,
     } = day;
     let closed = close_by_workers(rt, alloc, parts, &rules, &batch, workers)?;
-    let used = spell(rt, alloc, closed, &batch, threads_for(workers))?;
+    let used = spell(rt, alloc, closed, &batch, spare, workers as usize)?;
     Ok(used)
 }
 
-// The report of a closed day, spelled by so many threads.
+// The report of a closed day, spelled by so many threads in the place of texts that are no longer needed.
 fn spell<T: Threads + Sync>(
     rt: &T,
     alloc: Global,
     closed: ClosedParts,
     batch: &Batch,
+    spare: Vec<Vec<u8>>,
     threads: usize,
 ) -> Result<Used, NoMemory>
     requires { 1 ≤ threads }
-    ensures { IfOk result (λ used. text_of_pieces used.pieces.items ++ used.text.items
+    ensures { IfOk result (λ used. text_made used
         ≡ text_of (report_rows closed.parts (rows_replied batch.now closed.replies.items))) }
 {
     let replies = closed.replies.as_slice();
-    let pieces = write_report_pieces(rt, alloc, &closed.parts, batch, replies, threads)?;
+    let pieces = write_report_pieces(rt, alloc, &closed.parts, batch, replies, spare, threads)?;
     Ok(Used {
         pieces,
         text: Vec::new(alloc),
@@ -157,7 +149,7 @@ fn spell<T: Threads + Sync>(
 fn make_report_in_place(alloc: Global, day: DayParts, bytes: Vec<u8>) -> Result<Used, FrontFault>
     requires { day.batch.base + 1 ≡ day.parts.next }
     ensures { MatchResult result
-        (λ used. text_of_pieces used.pieces.items ++ used.text.items ≡ report_of (day_of_parts day))
+        (λ used. text_made used ≡ report_of (day_of_parts day))
         (λ fault. fault ≡ front.NoMemory) }
 {
     log_is_made_again();
@@ -176,8 +168,7 @@ fn make_report_in_place(alloc: Global, day: DayParts, bytes: Vec<u8>) -> Result<
 
 // What a command has used whose text is one piece.
 fn used_for(alloc: Global, text: Vec<u8>, closed: Closed) -> Used
-    ensures text { result.text ≡ text }
-    ensures pieces { result.pieces.items ≡ [] }
+    ensures { text_made result ≡ text.items }
 {
     Used {
         pieces: Vec::new(alloc),
@@ -194,7 +185,7 @@ fn make_plan<T: Threads + Sync>(
     threads: u32,
 ) -> Result<Used, FrontFault>
     ensures { MatchResult result
-        (λ used. IsPlanText (day_of_parts day.now) used.text.items)
+        (λ used. IsPlanText (day_of_parts day.now) (text_made used))
         (λ fault. fault ≡ front.NoMemory) }
 {
     let directory = day.parts.directory();
@@ -208,7 +199,7 @@ fn make_statement(alloc: Global, day: DayParts, account: AccountNo) -> Result<Us
     requires { day.batch.base + 1 ≡ day.parts.next }
     ensures { MatchResult result
         (λ used. (has_account day.parts account ≡ true)
-        × (used.text.items ≡ text_of (statement_of day.parts (log_of (day_of_parts day)) account)))
+        × (text_made used ≡ text_of (statement_of day.parts (log_of (day_of_parts day)) account)))
         (IsCommandFault (Statement account) day.parts) }
 {
     if day.parts.get(account).is_none() {
@@ -247,7 +238,7 @@ fn make_figures<T: Threads + Sync>(
     requires follows { day.batch.base + 1 ≡ day.parts.next }
     requires threads { may_work threads ≡ true }
     ensures { MatchResult result
-        (λ used. used.text.items ≡ text_of (figures_rows (book_after (day_of_parts day))))
+        (λ used. text_made used ≡ text_of (figures_rows (book_after (day_of_parts day))))
         (λ fault. fault ≡ front.NoMemory) }
 {
     let closed = close_day(rt, alloc, day, threads)?;
@@ -265,7 +256,7 @@ fn make_totals<T: Threads + Sync>(
     requires follows { day.batch.base + 1 ≡ day.parts.next }
     requires threads { may_work threads ≡ true }
     ensures { MatchResult result
-        (λ used. used.text.items ≡ text_of (totals_rows (book_after (day_of_parts day))))
+        (λ used. text_made used ≡ text_of (totals_rows (book_after (day_of_parts day))))
         (λ fault. fault ≡ front.NoMemory) }
 {
     let closed = close_day(rt, alloc, day, threads)?;
@@ -291,23 +282,18 @@ fn close_day<T: Threads + Sync>(
     alloc: Global,
     day: DayParts,
     threads: u32,
-) -> Result<ClosedParts, NoMemory>
+) -> Result<ClosedParts, FrontFault>
     requires follows { day.batch.base + 1 ≡ day.parts.next }
     requires threads { may_work threads ≡ true }
-    ensures { IfOk result (λ closed. closed.parts ≡ book_after (day_of_parts day)) }
+    ensures { MatchResult result
+        (λ closed. closed.parts ≡ book_after (day_of_parts day)) (λ fault. fault ≡ front.NoMemory) }
 {
     let DayParts {
         rules,
         parts,
         batch,
     } = day;
-    match settle_without_shifts(rt, alloc, parts, &rules, &batch, threads, &FreePlaces) {
-        Ok(closed) => Ok(closed),
-        Err(refused) => match refused.fault {
-            RegionsFault::NoMemory => Err(NoMemory),
-            RegionsFault::Workers | RegionsFault::WrongBase { .. } => unreachable!(),
-        },
-    }
+    close_by_workers(rt, alloc, parts, &rules, &batch, threads)
 }
 
 // Settles a batch by workers, on the accounts of the book.

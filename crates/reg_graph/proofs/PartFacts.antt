@@ -123,17 +123,6 @@ at-placed xs (suc k) low = ap (slice_get xs) (omega arith)
 
 -- ---- a delivery
 
-pub no-head : (day : DayValue) (plan : PlanValue) (k : ℕ) (w : WorldValue) (ps : List ParcelValue)
-    → first_head plan ps ≡ None → delivered_by day plan k w (Carries None ps) ≡ Err NothingToDeliver
-no-head day plan k w [] e = refl
-no-head day plan k w (p ∷ ps) e = rw e refl
-
-pub no-dock : (day : DayValue) (plan : PlanValue) (k : ℕ) (w : WorldValue) (ps : List ParcelValue) (place : ℕ)
-    → first_head plan ps ≡ Some place → arrived w place ≡ None → delivered_by day plan k w (Carries None ps)
-    ≡ Err NothingToDeliver
-no-dock day plan k w [] place e none = refl
-no-dock day plan k w (p ∷ ps) place e none = rw (e, none) refl
-
 pub goes-to : (day : DayValue) (plan : PlanValue) (k : ℕ) (w : WorldValue) (p : ParcelValue) (ps : List ParcelValue)
     (place : ℕ) (came : List ParcelValue) → first_head plan (p ∷ ps) ≡ Some place → arrived w place ≡ Some came
     → delivered_by day plan k w (Carries None (p ∷ ps))

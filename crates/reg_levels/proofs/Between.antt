@@ -106,10 +106,6 @@ module _ (day : DayValue) where
       → StandAfter day done standing
   stands_after done standing stand a touched = stand a touched
 
-  or_false : (b : Bool) → (b || false) ≡ b
-  or_false true = refl
-  or_false false = refl
-
   -- one more task is taken
   pub taken_more : (done running : List ℕ) (x : ℕ) (before after : ℕ → Name) → StandsBetween day done running before
       → AreTaken day x before after → StandsBetween day done (running ++ x ∷ []) after

@@ -19,9 +19,6 @@ use Rattle.reg_plan.specs.Orders.{fault_at, marked, waits, first_fault_after}
 pub record AreMarks (before : List ℕ) (marks : List Bool) : Type 0 where
   pub each : (number : ℕ) → 1 ≤ number → number ≤ length marks → marked marks number ≡ is_among before number
 
-pub marks_none : (marks : List Bool) → All (λ mark. mark ≡ false) marks → AreMarks [] marks
-marks_none marks none = record { each = λ number le within. none (number - 1) false (omega arith) }
-
 pub marks_more : (order : List ℕ) (k : ℕ) (x : ℕ) (marks : List Bool) → k < length order → x ≡ get_or order k 0 → 1 ≤ x
     → x ≤ length marks → AreMarks (take k order) marks
     → AreMarks (take (k + 1) order) (set marks (x - 1) true)

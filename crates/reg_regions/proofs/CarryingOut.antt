@@ -140,20 +140,6 @@ run-more laws c b old mid new replies more last place reply same lt all run turn
     placed : places_in (replies ++ one ∷ []) ≡ places_in replies ++ place ∷ []
     placed = map-append (λ (p : Placed). p.place) replies (one ∷ [])
 
--- and all places are up to the last
-pub low-more : (replies more : List Placed) (last place : ℕ) (reply : Reply) → last < place
-    → All (λ p. p ≤ last) (places_in replies) → more ≡ replies ++ record { place = place; reply = reply } ∷ []
-    → All (λ p. p ≤ place) (places_in more)
-low-more replies more last place reply lt all grown =
-    subst (λ rs. All (λ p. p ≤ place) (places_in rs)) (sym grown)
-    (subst (All (λ p. p ≤ place)) (sym (map-append (λ (p : Placed). p.place) replies (one ∷ [])))
-    (All-push (λ p. p ≤ place) (places_in replies) place
-    (All-weaker (λ p. p ≤ last) (λ p. p ≤ place) (λ p le. omega (arith, le, lt)) (places_in replies) all)
-    (omega arith)))
-  where
-    one : Placed
-    one = record { place = place; reply = reply }
-
 -- what stands at an index
 pub got-at : {X : Type 0} (xs : List X) (k : ℕ) (x : X) → k < length xs → x ≡ get_or xs k x → slice_get xs k ≡ Some x
 got-at [] k x lt is = absurd (omega arith)

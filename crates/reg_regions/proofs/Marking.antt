@@ -47,10 +47,6 @@ unset zero k = refl
 unset (suc n) zero = refl
 unset (suc n) (suc k) = unset n k
 
-pub unmarked : (n : ℕ) (marks : List Bool) → marks ≡ replicate n false → AreMarked [] marks
-unmarked n marks is zero = refl
-unmarked n marks is (suc k) = sym (ap one_if (ap (λ ms. get_or ms k false) is ∙ unset n k))
-
 -- beyond the marks none is set
 beyond : (marks : List Bool) (k : ℕ) → length marks ≤ k → get_or marks k false ≡ false
 beyond [] k le = refl

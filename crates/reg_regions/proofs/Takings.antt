@@ -9,10 +9,6 @@ takes-more : (worker : ℕ) (k : TakerView) (ns : List ℕ) (l : TakerView) (n :
 takes-more worker k [] l n m taken one = (m, subst (λ s. TakesOne worker s n m) taken one, refl)
 takes-more worker k (x ∷ ns) l n m taken one = (taken.0, taken.1, takes-more worker taken.0 ns l n m taken.2 one)
 
--- nothing was taken yet
-pub none-taken : (worker : ℕ) (k : TakerView) → WereTaken worker k [] k
-none-taken worker k = record { numbers = []; taken = refl; among = λ number. omega arith }
-
 -- one region more was taken, and settled or not
 pub one-taken : (worker : ℕ) (k : TakerView) (settled : List ℕ) (l : TakerView) (n : ℕ) (m : TakerView) (after : List ℕ)
     → WereTaken worker k settled l → TakesOne worker l n m → (after ≡ settled) ⊎ (after ≡ settled ++ n ∷ [])

@@ -15,7 +15,8 @@ use Rattle.reg_facts.specs.Counting.{one_if, total, times, once}
 use Rattle.reg_facts.proofs.lemmas.Totals.{total-append}
 use Rattle.reg_regions.specs.declared.running.settled_list.SettledList.{SettledList}
 use Rattle.reg_regions.specs.Settling.{kept, places_in}
-use Rattle.reg_regions.specs.Stealing.{numbers_of, settled_places, times_noted, first_numbers}
+use Rattle.reg_facts.specs.Lists.{first_numbers}
+use Rattle.reg_regions.specs.Stealing.{numbers_of, settled_places, times_noted}
 use Rattle.reg_regions.proofs.Placing.{times-count}
 
 -- a sum is the same in another order

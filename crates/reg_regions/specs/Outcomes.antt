@@ -1,16 +1,14 @@
 -- A day that is settled by regions: who carried out what, and why it was not settled.
-use Rattle.std.specs.Prelude.{◌≡◌, ◌≢◌, ℕ, ◌+◌, Bool, true, false, nat_le, ◌&&◌, List, Option, Some, None}
+use Rattle.std.specs.Prelude.{◌≡◌, ◌≢◌, ℕ, ◌+◌, true, false, List, Option, Some, None}
 use Rattle.reg_base.specs.Batch.{BatchValue}
+pub use Rattle.reg_base.specs.Workers.{may_work}
 use Rattle.reg_book.specs.Book.{BookValue}
 use Rattle.reg_facts.specs.Counting.{once}
+use Rattle.reg_facts.specs.Lists.{first_numbers}
 use Rattle.reg_regions.specs.declared.not_settled.RegionsFault.{RegionsFault}
 use Rattle.reg_regions.specs.declared.not_settled.RegionsFault.TheVariants.{Workers, WrongBase, NoMemory}
 use Rattle.reg_regions.specs.declared.running.shift.WorkShift.{WorkShift}
-use Rattle.reg_regions.specs.Stealing.{shift_workers, first_numbers, times_in_shifts}
-
--- this number of workers is within its limits. The number stands here, so that a wrong constant in the code is refused
-abbrev pub may_work : ℕ → Bool
-may_work workers = nat_le 1 workers && nat_le workers 8
+use Rattle.reg_regions.specs.Stealing.{shift_workers, times_in_shifts}
 
 -- one shift a worker, in rising order, and each of the places 1 to n stands in them once, and no other number does
 pub record AreShiftsOf (workers : ℕ) (count : ℕ) (shifts : List WorkShift) : Type 0 where

@@ -1,5 +1,5 @@
 -- Workers that take regions from deques: what a region begins with, and what comes of all.
-use Rattle.std.specs.Prelude.{◌≡◌, ℕ, zero, suc, ◌+◌, ◌-◌, ◌<◌, List, [], ◌∷◌, ◌++◌, All, map, length, Some}
+use Rattle.std.specs.Prelude.{◌≡◌, ℕ, ◌+◌, ◌-◌, ◌<◌, List, [], All, map, length, Some}
 use Rattle.std.specs.Prelude.{Bool, true}
 use Rattle.std.specs.Prelude.{slice_get, slice_index_or}
 use Rattle.std.specs.List.{flat_map}
@@ -13,6 +13,7 @@ use Rattle.reg_rules.specs.State.{State, Setting, numbers}
 use Rattle.reg_rules.specs.Laws.{IsReady}
 use Rattle.reg_book.specs.Indexes.{index_lists}
 use Rattle.reg_facts.specs.Counting.{total, times, once}
+pub use Rattle.reg_facts.specs.Lists.{first_numbers}
 use Rattle.reg_regions.specs.declared.dealing.Deal.{Deal}
 use Rattle.reg_regions.specs.declared.running.settled_list.SettledList.{SettledList}
 use Rattle.reg_regions.specs.declared.running.shift.WorkShift.{WorkShift}
@@ -68,11 +69,6 @@ shift_workers shifts = map (λ s. s.worker) shifts
 -- how often a place stands in shifts, taken together
 abbrev pub times_in_shifts : ℕ → List WorkShift → ℕ
 times_in_shifts place shifts = times_noted (λ s. s.places.items) place shifts
-
--- the numbers from 0 on, so many
-abbrev pub first_numbers : ℕ → List ℕ
-first_numbers zero = []
-first_numbers (suc n) = first_numbers n ++ n ∷ []
 
 -- what each worker noted, in rising order; if places are kept, each of the places 1 to n stands there once, and no
 -- other number

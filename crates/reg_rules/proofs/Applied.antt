@@ -12,7 +12,7 @@ use Rattle.reg_base.specs.declared.movement.Movement.{Movement}
 use Rattle.reg_base.specs.declared.act.Act.{Act}
 use Rattle.reg_base.specs.declared.instruction.Instruction.{Instruction}
 use Rattle.reg_base.specs.declared.refusals.Refusal.TheVariants.{UnknownAccount, SameAccount, HoldingTooLarge}
-use Rattle.reg_base.specs.Acts.{movement_of, change_of, first, shares, parties, also_known}
+use Rattle.reg_base.specs.Acts.{movement_of, change_of, shares, parties, also_known}
 use Rattle.reg_base.specs.Footprint.{all_known, each_once, footprint}
 use Rattle.reg_account.specs.Account.{AccountValue, held_by, credited}
 use Rattle.reg_rules.specs.State.{State, Setting, Receiver, numbers, account, seen}
@@ -144,9 +144,6 @@ given-changes kind v (Some share) = refl
 
 module _ (c : Setting) (n : ℕ) (act : Act) (x : AccountValue) (xs : State) (own : numbers (x ∷ xs) ≡ parties act)
     (distinct : IsDistinct eqb (numbers (x ∷ xs))) where
-  is-first : x.number ≡ first act
-  is-first = cc own
-
   others : AllByRecursion (λ b. eqb x.number b ≡ false) (numbers xs)
   unfolding IsDistinct
   others = distinct.0

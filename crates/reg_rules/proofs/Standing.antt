@@ -1,14 +1,13 @@
 -- What is found of an instruction, and the case that it is where all of its accounts are known and none is named twice.
-use Rattle.std.proofs.Common.{◌≡◌, ℕ, Bool, true, false, cond, eqb, List, [], ◌∷◌, ◌++◌, map, drop, length, refl, ap}
-use Rattle.std.proofs.Common.{Option, Some, ℤ, Result, sym, subst, arith, ◌∙◌}
-use Rattle.std.specs.Prelude.{find, not}
+use Rattle.std.proofs.Common.{◌≡◌, ℕ, Bool, true, false, cond, eqb, List, [], ◌∷◌, ◌++◌, map, refl, ap}
+use Rattle.std.proofs.Common.{Option, Some, ℤ, Result, sym, subst, ◌∙◌}
+use Rattle.std.specs.Prelude.{find}
 use Rattle.std.specs.Option.{option_to_list}
 use Rattle.std.specs.List.{IsDistinct, AllByRecursion, list_all}
 use Rattle.reg_base.specs.declared.shares.Share.{Share}
 use Rattle.reg_base.specs.declared.movement.Movement.{Movement}
 use Rattle.reg_base.specs.declared.instruction.Instruction.{Instruction}
 use Rattle.reg_base.specs.declared.refusals.Refusal.{Refusal}
-use Rattle.reg_base.specs.declared.refusals.Refusal.TheVariants.{UnknownAccount, SameAccount}
 use Rattle.reg_base.specs.Acts.{movement_of, first, shares, parties, also_known, other_known}
 use Rattle.reg_base.specs.Calendar.{due}
 use Rattle.reg_base.specs.Footprint.{must_be_known, all_known, each_once, footprint}
@@ -71,19 +70,6 @@ all-there : (known : Bool) (x : ℕ) (xs ns : List ℕ) → x ∷ xs ≡ cond kn
 all-there true x xs ns own = refl
 all-there false x xs ns own = absurd (cc)
 
--- where there are none, one of them is not
-none-there : (known : Bool) (n : ℕ) (ns : List ℕ) → [] ≡ cond known (each_once (n ∷ ns)) [] → known ≡ false
-none-there true n ns own = absurd (cc)
-none-there false n ns own = refl
-
-pub unknown-first : (c : Setting) (s : State) (i : Instruction) → numbers s ≡ footprint c.directory i.act
-    → length s ≡ 0 → Some UnknownAccount ≡ refusal c s i
-unknown-first c [] i own none =
-    let known = none-there (all_known c.directory i.act) (first i.act)
-    (map (λ (share : Share). share.to) (shares i.act)) own in
-    sym (ap (λ b. cond (not b) (Some UnknownAccount) (find (fails c (seen [] i.act) i) (drop 1 checks))) known)
-unknown-first c (v ∷ vs) i own none = absurd (omega (arith, none))
-
 -- an account that is named twice is found by the row of the act
 pub repeat-of : (i : Instruction) (m : Movement) (r b : Bool) → m ≡ movement_of i.act
     → r ≡ has_repeat ((m.first ∷ map (λ share. share.to) m.shares) ++ option_to_list (other_known m.change)) → r ≡ b
@@ -97,12 +83,6 @@ module _ (c : Setting) (i : Instruction) (v : AccountValue) (vs : State)
     (own : numbers (v ∷ vs) ≡ footprint c.directory i.act) where
   pub is-known : all_known c.directory i.act ≡ true
   is-known = all-there (all_known c.directory i.act) v.number (numbers vs) (parties i.act) own
-
-  pub same-second : has_repeat (must_be_known i.act) ≡ true → Some SameAccount ≡ refusal c (v ∷ vs) i
-  same-second twice =
-      sym (ap (λ b. cond (not b) (Some UnknownAccount) (find (fails c (seen (v ∷ vs) i.act) i) (drop 1 checks)))
-      is-known
-      ∙ ap (λ b. cond b (Some SameAccount) (find (fails c (seen (v ∷ vs) i.act) i) (drop 2 checks))) twice)
 
   module _ (apart : has_repeat (must_be_known i.act) ≡ false) (distinct : IsDistinct eqb (footprint c.directory i.act))
     where

@@ -76,10 +76,6 @@ up_count : (first n : ℕ) → Up (λ x. x) (count_up first n)
 up_count first zero = tt
 up_count first (suc n) = ((λ y m. omega (arith, counted_from (first + 1) n y m)), up_count (first + 1) n)
 
-numbers_same : (ns : List ℕ) → map (λ n. n) ns ≡ ns
-numbers_same [] = refl
-numbers_same (n ∷ ns) = ap (λ ms. n ∷ ms) (numbers_same ns)
-
 -- sorted elements with the numbers 1 to n
 pub sorted_count : {X : Type 0} (key : X → ℕ) (n : ℕ) (xs : List X) → IsPermutation (count_up 1 n) (map key xs)
     → IsNonDecreasingBy key xs → map key xs ≡ count_up 1 n

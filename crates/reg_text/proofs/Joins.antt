@@ -14,15 +14,9 @@ use Rattle.reg_text.proofs.Names.{has_space, placed, with_row, next_draft, draft
 use Rattle.reg_text.specs.declared.cause.Cause.TheVariants as cause
 use Rattle.reg_text.specs.declared.reading.tag.Tag.TheVariants as tag
 use Rattle.reg_text.specs.Joining.{number_in, IsHeading, HasHeading, IsPart, AccountsMayFollow, joined_drafts}
-use Rattle.reg_text.proofs.Binds.{bind_ok, test_ok, unless_ok, ok_is}
+use Rattle.reg_text.proofs.Binds.{bind_ok, test_ok, unless_ok}
 use Rattle.reg_text.proofs.TagLaws.{stage-of, goes_on}
-use Rattle.reg_text.proofs.DraftSteps.{count-accounts}
-
-placed-passes : {A : Type 0} (ordered space : Bool) (x y : A) → placed ordered space x ≡ Ok y → (ordered ≡ true)
-    × (space ≡ true) × (x ≡ y)
-placed-passes true true x y e = (refl, refl, ok_is x y e)
-placed-passes true false x y e = absurd cc
-placed-passes false space x y e = absurd cc
+use Rattle.reg_text.proofs.DraftSteps.{count-accounts, placed_ok}
 
 -- ---- a row that is taken
 
@@ -49,7 +43,7 @@ taken d e r eq =
     let m = test_ok (may_follow version d.last n.0) cause.Tag n.0 t.0 n.2 in
     let x = bind_ok ((row (scope_of d) t.0).read r) (λ y. placed (in_order t.0 d y) (has_space t.0 d y) (with t.0 d y))
     e t.2 in
-    let p = placed-passes (in_order t.0 d x.0) (has_space t.0 d x.0) (with t.0 d x.0) e x.2 in
+    let p = placed_ok (in_order t.0 d x.0) (has_space t.0 d x.0) (with t.0 d x.0) e x.2 in
     record {
       tag = t.0;
       says = x.0;

@@ -9,7 +9,7 @@ use Rattle.reg_account.specs.Account.{AccountValue}
 use Rattle.reg_rules.specs.declared.reply.LogRow.{LogRow}
 use Rattle.reg_rules.specs.declared.reply.Reply.{Reply}
 use Rattle.reg_book.specs.Fold.{rows_from}
-use Rattle.reg_book.specs.Parts.{joined}
+use Rattle.reg_facts.specs.Lists.{joined_lists}
 use Rattle.reg_book.specs.Totals.{totals_of}
 use Rattle.reg_text.specs.declared.writing.pieces.Blocks.{Blocks}
 use Rattle.reg_text.specs.Report.{text_of, log_rows}
@@ -39,4 +39,4 @@ AreBlocksOf first accounts blocks =
 
 -- the same of the accounts of lists
 abbrev pub AreBlocksOfLists : ℕ → List (Vec AccountValue Global) → Blocks → Type 0
-AreBlocksOfLists first lists blocks = AreBlocksOf first (joined lists) blocks
+AreBlocksOfLists first lists blocks = AreBlocksOf first (joined_lists lists) blocks

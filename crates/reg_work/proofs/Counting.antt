@@ -6,7 +6,8 @@ use Rattle.reg_facts.specs.Counting.{times}
 use Rattle.reg_facts.proofs.lemmas.Times.{times-append}
 use Rattle.reg_facts.proofs.lemmas.Totals.{total-append}
 use Rattle.reg_work.specs.declared.shift.Shift.{Shift}
-use Rattle.reg_work.specs.Shifts.{times_in, places_ran, numbers_below}
+use Rattle.reg_facts.specs.Lists.{first_numbers}
+use Rattle.reg_work.specs.Shifts.{times_in, places_ran}
 
 -- one shift more adds what stands in it
 pub times-one_more : {N : Type 0} (p : ℕ) (shifts : List (Shift N)) (s : Shift N)
@@ -14,19 +15,19 @@ pub times-one_more : {N : Type 0} (p : ℕ) (shifts : List (Shift N)) (s : Shift
 times-one_more p shifts s = omega (arith, total-append (λ x. times p (places_ran x.ran.items)) shifts (s ∷ []))
 
 -- one more number
-pub numbers-next : (n : ℕ) → numbers_below (n + 1) ≡ numbers_below n ++ n ∷ []
+pub numbers-next : (n : ℕ) → first_numbers (n + 1) ≡ first_numbers n ++ n ∷ []
 numbers-next n = rw add-one refl
 
 -- if one more is numbered after so many, one more number is there
 pub one-numbered : {X : Type 0} (f : X → ℕ) (all before : List X) (x : X) (n m : ℕ) → all ≡ before ++ x ∷ []
-    → map f before ≡ numbers_below n → f x ≡ n → m ≡ n + 1 → map f all ≡ numbers_below m
+    → map f before ≡ first_numbers n → f x ≡ n → m ≡ n + 1 → map f all ≡ first_numbers m
 one-numbered f all before x n m items numbered is next =
     ap (map f) items
     ∙ map-append f before (x ∷ [])
     ∙ ap (λ ns. ns ++ f x ∷ []) numbered
-    ∙ ap (λ k. numbers_below n ++ k ∷ []) is
+    ∙ ap (λ k. first_numbers n ++ k ∷ []) is
     ∙ sym (numbers-next n)
-    ∙ sym (ap numbers_below next)
+    ∙ sym (ap first_numbers next)
 
 -- an item that was moved out of one list is behind the others of another
 pub one-moved : {X Y : Type 0} (f : X → Y) (all before : List X) (x : X) (y : Y) (rest left whole : List Y)

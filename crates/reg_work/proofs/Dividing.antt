@@ -4,7 +4,7 @@ use Rattle.std.proofs.Common.{vec_len, Vec, Global, arith, ap, ◌∙◌, refl, 
 use Rattle.std.proofs.lemmas.Grind.{flat_map-append}
 use Rattle.std.proofs.lemmas.List.{map-append, take-append-drop}
 use Rattle.std.proofs.lemmas.List.Elements.{All-append}
-use Rattle.reg_work.specs.Parts.{joined}
+use Rattle.reg_facts.specs.Lists.{joined_lists}
 
 -- what is left after one part more
 pub left_after : (count least larger index rest size after : ℕ) → index < count
@@ -22,13 +22,13 @@ module _ {T : Type 0} where
   -- one part more, and the rest, are the whole
   pub one_more : (parts new : List (Vec T Global)) (part after : Vec T Global) (size : ℕ) (rest all : List T)
       → new ≡ parts ++ part ∷ [] → part.items ≡ take size rest → after.items ≡ drop size rest
-      → joined parts ++ rest ≡ all
-      → joined new ++ after.items ≡ all
+      → joined_lists parts ++ rest ≡ all
+      → joined_lists new ++ after.items ≡ all
   one_more parts new part after size rest all is front back whole =
       rw (
         is,
         flat_map-append (λ (p : Vec T Global). p.items) parts (part ∷ []),
-        append_assoc (joined parts) (joined (part ∷ [])) after.items,
+        append_assoc (joined_lists parts) (joined_lists (part ∷ [])) after.items,
         append-nil part.items,
         front,
         back,
@@ -47,6 +47,6 @@ module _ {T : Type 0} where
 
   -- one part more, behind the others
   pub joined-more : (all parts : List (Vec T Global)) (part : Vec T Global) → all ≡ parts ++ part ∷ []
-      → joined all ≡ joined parts ++ part.items
+      → joined_lists all ≡ joined_lists parts ++ part.items
   joined-more all parts part is =
       rw (is, flat_map-append (λ (p : Vec T Global). p.items) parts (part ∷ []), append-nil part.items) refl

@@ -1,6 +1,7 @@
 -- Shifts: which workers they are of, and how often a place stands in them.
-use Rattle.std.specs.Prelude.{◌≡◌, ℕ, zero, suc, List, [], ◌∷◌, ◌++◌, map}
+use Rattle.std.specs.Prelude.{◌≡◌, ℕ, List, map}
 use Rattle.reg_facts.specs.Counting.{total, times, once}
+use Rattle.reg_facts.specs.Lists.{first_numbers}
 use Rattle.reg_tasks.specs.declared.outcome.Ran.{Ran}
 use Rattle.reg_work.specs.declared.shift.Shift.{Shift}
 
@@ -17,13 +18,8 @@ module _ {N : Type 0} where
   abbrev pub times_in : ℕ → List (Shift N) → ℕ
   times_in place shifts = total (λ s. times place (places_ran s.ran.items)) shifts
 
--- the numbers from 0 on, so many
-abbrev pub numbers_below : ℕ → List ℕ
-numbers_below zero = []
-numbers_below (suc n) = numbers_below n ++ n ∷ []
-
 module _ {N : Type 0} where
   -- one shift a worker, in rising order, and each of the places 1 to n stands in them once, and no other number does
   pub record AreShifts (workers : ℕ) (count : ℕ) (shifts : List (Shift N)) : Type 0 where
-    pub workers_are : workers_of shifts ≡ numbers_below workers
+    pub workers_are : workers_of shifts ≡ first_numbers workers
     pub each_once : (place : ℕ) → times_in place shifts ≡ once count place

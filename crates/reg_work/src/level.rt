@@ -4,7 +4,8 @@ ghost use Rattle.std.specs.Prelude.{◌≡◌, ◌≤◌, ◌++◌, [], Err, map
 ghost use Rattle.std.specs.Prelude.{is_ok, true};
 ghost use Rattle.reg_work.specs.declared.fault.Shortage.TheVariants.{Thread};
 ghost use Rattle.reg_levels.specs.Levels.{places_of, places_run};
-ghost use Rattle.reg_work.specs.Parts.{joined, AreEven};
+ghost use Rattle.reg_facts.specs.Lists.{joined_lists};
+ghost use Rattle.reg_work.specs.Parts.{AreEven};
 ghost use Rattle.reg_work.specs.Shortages.{IsShortage};
 
 use crate::fault::Shortage;
@@ -84,7 +85,7 @@ fn start_all<'s, E, N: Naming + Send + Sync + 's, G: Gate + 's>(
     requires none { handles.old.items ≡ [] }
     requires room { vec_len parts ≤ vec_capacity handles.old }
     ensures all { OnOk result
-        (flat_map (λ handle. handle.promise.tasks.value.items) handles.new.items ≡ joined parts.items) }
+        (flat_map (λ handle. handle.promise.tasks.value.items) handles.new.items ≡ joined_lists parts.items) }
     ensures fault { IfErr result (λ fault. fault ≡ Thread) }
 {
     let mut worker: u32 = 0;
@@ -109,12 +110,15 @@ fn start_all<'s, E, N: Naming + Send + Sync + 's, G: Gate + 's>(
 }
 
 // What was lacking, if anything: a thread comes before memory.
-fn first_lack(started: Result<(), Shortage>, joined: Result<(), NoMemory>) -> Result<(), Shortage>
+fn first_lack(
+    started: Result<(), Shortage>,
+    joined_lists: Result<(), NoMemory>,
+) -> Result<(), Shortage>
     ensures thread { IfErr started (λ shortage. result ≡ Err shortage) }
-    ensures both { OnOk result ((is_ok started ≡ true) × (is_ok joined ≡ true)) }
+    ensures both { OnOk result ((is_ok started ≡ true) × (is_ok joined_lists ≡ true)) }
 {
     started?;
-    joined?;
+    joined_lists?;
     Ok(())
 }
 
@@ -131,20 +135,20 @@ fn run_parts<N: Naming + Send + Sync, R: Threads + Wait, G: Gate>(
 ) -> Result<Vec<Outcome<N>>, Shortage>
     requires few { vec_len parts ≤ workers }
     requires even { AreEven (map vec_len parts.items) }
-    ensures { IfOk result (λ outcomes. places_run outcomes.items ≡ places_of (joined parts.items)) }
+    ensures { IfOk result (λ outcomes. places_run outcomes.items ≡ places_of (joined_lists parts.items)) }
 {
     let _workers = workers;
     thread::scope(
         thread::scope_env(),
         rt,
         move |scope| -> Result<Vec<Outcome<N>>, Shortage>
-            ensures { IfOk result (λ outcomes. places_run outcomes.items ≡ places_of (joined parts.items)) }
+            ensures { IfOk result (λ outcomes. places_run outcomes.items ≡ places_of (joined_lists parts.items)) }
         {
             let mut outcomes = Vec::with_capacity(alloc, count)?;
             let mut handles = Vec::with_capacity(alloc, parts.len())?;
             let started = start_all(scope, alloc, context, gate, parts, &mut handles);
-            let joined = join_all(rt, handles, &mut outcomes);
-            first_lack(started, joined)?;
+            let joined_lists = join_all(rt, handles, &mut outcomes);
+            first_lack(started, joined_lists)?;
             Ok(outcomes)
         },
     )

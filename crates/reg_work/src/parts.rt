@@ -1,7 +1,8 @@
 //! Dividing work among workers.
 
 ghost use Rattle.std.specs.Prelude.{◌≡◌, ◌≤◌, ◌<◌, ◌+◌, ◌-◌, ◌^◌, length, map, vec_len, IfOk};
-ghost use Rattle.reg_work.specs.Parts.{joined, AreEven};
+ghost use Rattle.reg_facts.specs.Lists.{joined_lists};
+ghost use Rattle.reg_work.specs.Parts.{AreEven};
 
 use reg_base::NoMemory;
 use std::alloc::Global;
@@ -26,7 +27,7 @@ pub(crate) fn divide<T: Drop>(
 ) -> Result<Vec<Vec<T>>, NoMemory>
     requires { 1 ≤ count }
     ensures number { IfOk result (λ parts. length parts.items ≡ count) }
-    ensures whole { IfOk result (λ parts. joined parts.items ≡ items.items) }
+    ensures whole { IfOk result (λ parts. joined_lists parts.items ≡ items.items) }
     ensures even { IfOk result (λ parts. AreEven (map vec_len parts.items)) }
 {
     let least = items.len() / count;

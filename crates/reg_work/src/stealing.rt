@@ -10,7 +10,8 @@ ghost use Rattle.reg_facts.specs.Counting.{times, once};
 ghost use Rattle.reg_tasks.specs.Gathering.{places_of};
 ghost use Rattle.reg_tasks.specs.Names.{IsNamed};
 ghost use Rattle.reg_deques.specs.Yards.{deques, deques_of_pass};
-ghost use Rattle.reg_work.specs.Faults.{are_workers, IsWorkFault};
+ghost use Rattle.reg_base.specs.Workers.{may_work};
+ghost use Rattle.reg_work.specs.Faults.{IsWorkFault};
 ghost use Rattle.reg_work.specs.Shifts.{AreShifts};
 ghost use Rattle.reg_work.specs.Shortages.{IsShortage};
 
@@ -121,7 +122,7 @@ fn run_by_stealing<N: Naming + Send + Sync, R: Threads + Wait + Sync, G: Gate>(
     gate: &G,
 ) -> Result<Work<N>, Shortage>
     requires several { 2 ≤ workers }
-    requires workers { are_workers workers ≡ true }
+    requires workers { may_work workers ≡ true }
     ensures shifts { IfOk result (λ w. AreShifts workers (length context.now.batch.now.instructions) w.shifts.items) }
     ensures lack { IfErr result (IsShortage workers) }
     ensures each_done { IfOk result
@@ -145,7 +146,7 @@ fn settle_context<N: Naming + Send + Sync, R: Threads + Wait + Sync, G: Gate>(
     workers: u32,
     gate: &G,
 ) -> Result<(Settled, Vec<Shift<N>>), Shortage>
-    requires workers { are_workers workers ≡ true }
+    requires workers { may_work workers ≡ true }
     ensures settled { IfOk result (λ s. IfSome N.day (λ d. s.0 ≡ settled_day d)) }
     ensures of_book { IfOk result (λ s. IsOfBook context.now.book.now s.0) }
     ensures shifts { IfOk result (λ s. AreShifts workers (length context.now.batch.now.instructions) s.1.items) }
@@ -176,7 +177,7 @@ fn settle_named<N: Naming + Send + Sync, R: Threads + Wait + Sync, G: Gate>(
     gate: &G,
 ) -> Result<(Settled, Vec<Shift<N>>), WorkFault>
     requires day { IsNamed N.day book.now rules.now batch.now }
-    requires workers { are_workers workers ≡ true }
+    requires workers { may_work workers ≡ true }
     ensures answer { MatchResult result
         (λ s. (batch.now.base + 1 ≡ book.now.next) × IfSome N.day (λ d. s.0 ≡ settled_day d))
         (IsWorkFault workers book.now batch.now) }
@@ -216,7 +217,7 @@ pub fn settle_with<R: Threads + Wait + Sync, G: Gate>(
     gate: &G,
 ) -> Result<(Settled, Vec<Shift<Brand>>), WorkFault>
     ensures settled { MatchResult result
-        (λ s. (are_workers workers ≡ true) × (batch.now.base + 1 ≡ book.now.next)
+        (λ s. (may_work workers ≡ true) × (batch.now.base + 1 ≡ book.now.next)
         × (s.0 ≡ settled_day (day_of book.now rules.now batch.now)))
         (IsWorkFault workers book.now batch.now) }
     ensures of_book { IfOk result (λ s. IsOfBook book.now s.0) }

@@ -4,10 +4,10 @@ ghost use Rattle.std.specs.Prelude.{◌≡◌, ℕ, ◌+◌, ◌<◌, ◌++◌, 
 ghost use Rattle.reg_claim.specs.Seats.{known, seat_table, table_id, places};
 ghost use Rattle.reg_facts.specs.Counting.{times, once};
 ghost use Rattle.reg_tasks.specs.Gathering.{places_of};
-ghost use Rattle.reg_work.specs.Parts.{joined};
+ghost use Rattle.reg_facts.specs.Lists.{joined_lists};
 ghost use Rattle.reg_work.specs.Shifts.{AreShifts, workers_of, times_in};
 ghost use Rattle.reg_work.specs.EndedWorkers.{ended_numbers, all_done, all_closing};
-ghost use Rattle.reg_work.specs.Shifts.{numbers_below};
+ghost use Rattle.reg_facts.specs.Lists.{first_numbers};
 
 use crate::shared::SharedIds;
 use crate::shift::Shift;
@@ -28,7 +28,7 @@ pub(crate) struct Work<N: Naming> {
 
 impl<N: Naming> Work<N> {
     ghost use Rattle.std.specs.Prelude.{◌∷◌};
-    ghost use Rattle.reg_work.specs.Parts.{joined};
+    ghost use Rattle.reg_facts.specs.Lists.{joined_lists};
     ghost use Rattle.reg_work.specs.Shifts.{places_ran};
 
     // Nobody did anything yet.
@@ -51,7 +51,8 @@ impl<N: Naming> Work<N> {
         closing: Vec<LastParcel<N>>,
     ) -> Result<(), NoMemory>
         ensures done { OnOk result (self.new.done.items ≡ self.old.done.items ++ done.items) }
-        ensures closing { OnOk result (joined self.new.closing.items ≡ joined self.old.closing.items ++ closing.items) }
+        ensures closing { OnOk result
+            (joined_lists self.new.closing.items ≡ joined_lists self.old.closing.items ++ closing.items) }
         ensures shifts { OnOk result
             (self.new.shifts.items ≡ self.old.shifts.items ++ record { worker = worker; ran = ran } ∷ []) }
         ensures workers { OnOk result
@@ -85,7 +86,7 @@ fn append_all<T: Drop>(items: &mut Vec<T>, more: Vec<T>) -> Result<(), NoMemory>
 /// # Errors
 /// `NoMemory` if memory ran out.
 pub(crate) fn join_parts<T: Drop>(alloc: Global, parts: Vec<Vec<T>>) -> Result<Vec<T>, NoMemory>
-    ensures { IfOk result (λ all. all.items ≡ joined parts.items) }
+    ensures { IfOk result (λ all. all.items ≡ joined_lists parts.items) }
 {
     let mut all = Vec::new(alloc);
     for part in parts {
@@ -108,10 +109,10 @@ pub(crate) fn count_up<N: Naming, I: SharedIds>(
     requires stake { (known seat).stake + vec_len ended_workers ≡ 16 }
     requires fresh { ((known seat).finished ≡ []) × ((known seat).seen ≡ 0) }
     requires some { 0 < vec_len ended_workers }
-    requires workers { ended_numbers ended_workers.items ≡ numbers_below (vec_len ended_workers) }
+    requires workers { ended_numbers ended_workers.items ≡ first_numbers (vec_len ended_workers) }
     ensures shifts { IfOk result (λ w. AreShifts (vec_len ended_workers) I.count w.shifts.items) }
     ensures done { IfOk result (λ w. w.done.items ≡ all_done ended_workers.items) }
-    ensures closing { IfOk result (λ w. joined w.closing.items ≡ all_closing ended_workers.items) }
+    ensures closing { IfOk result (λ w. joined_lists w.closing.items ≡ all_closing ended_workers.items) }
     ensures each_done { IfOk result (λ w. (p : ℕ) → times p (places_of w.done.items) ≡ once I.count p) }
 {
     let mut rest = seat;

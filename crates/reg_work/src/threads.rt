@@ -2,7 +2,7 @@
 
 ghost use Rattle.std.specs.Prelude.{◌≡◌, ◌≤◌, ◌<◌, ◌+◌, ◌++◌, [], vec_len, vec_capacity, map, IfOk, IfErr, OnOk};
 ghost use Rattle.reg_work.specs.declared.fault.Shortage.TheVariants.{Thread};
-ghost use Rattle.reg_work.specs.Shifts.{numbers_below};
+ghost use Rattle.reg_facts.specs.Lists.{first_numbers};
 ghost use Rattle.reg_work.specs.EndedWorkers.{ended_numbers};
 
 use crate::fault::Shortage;
@@ -50,7 +50,7 @@ fn start_all<
     requires room { vec_len unstarted ≤ vec_capacity handles.old }
     requires few { vec_len unstarted ≤ 8 }
     ensures all { OnOk result
-        (map (λ handle. handle.promise.number) handles.new.items ≡ numbers_below (vec_len unstarted)) }
+        (map (λ handle. handle.promise.number) handles.new.items ≡ first_numbers (vec_len unstarted)) }
     ensures each { OnOk result (vec_len handles.new ≡ vec_len unstarted) }
     ensures fault { IfErr result (λ fault. fault ≡ Thread) }
 {
@@ -117,7 +117,7 @@ pub(crate) fn run_in_threads<
 ) -> Result<Vec<EndedWorker<Task<N>, N, I>>, Shortage>
     requires few { vec_len unstarted ≤ 7 }
     ensures workers { IfOk result
-        (λ ended_workers. ended_numbers ended_workers.items ≡ numbers_below (vec_len unstarted + 1)) }
+        (λ ended_workers. ended_numbers ended_workers.items ≡ first_numbers (vec_len unstarted + 1)) }
     ensures each { IfOk result (λ ended_workers. vec_len ended_workers ≡ vec_len unstarted + 1) }
 {
     let count = unstarted.len();
@@ -128,7 +128,7 @@ pub(crate) fn run_in_threads<
             requires few { vec_len unstarted ≤ 7 }
             requires number { count ≡ vec_len unstarted }
             ensures workers { IfOk result
-                (λ ended_workers. ended_numbers ended_workers.items ≡ numbers_below (vec_len unstarted + 1)) }
+                (λ ended_workers. ended_numbers ended_workers.items ≡ first_numbers (vec_len unstarted + 1)) }
             ensures each { IfOk result (λ ended_workers. vec_len ended_workers ≡ vec_len unstarted + 1) }
         {
             let mut last = last;

@@ -5,7 +5,8 @@ ghost use Rattle.reg_book.specs.Day.{day_of, settled_day};
 ghost use Rattle.reg_book.specs.Settled.{IsOfBook};
 ghost use Rattle.reg_book.specs.Settling.{IsSettleFault};
 ghost use Rattle.reg_tasks.specs.Names.{IsNamed};
-ghost use Rattle.reg_work.specs.Faults.{are_workers, IsWorkFault};
+ghost use Rattle.reg_base.specs.Workers.{may_work};
+ghost use Rattle.reg_work.specs.Faults.{IsWorkFault};
 ghost use Rattle.reg_work.specs.Shortages.{IsShortage};
 
 use crate::fault::{Shortage, WorkFault};
@@ -22,7 +23,7 @@ use std::thread::Threads;
 
 // Whether this number of workers is within its limits.
 pub(crate) fn is_allowed(workers: u32) -> bool
-    ensures { result ≡ are_workers workers }
+    ensures { result ≡ may_work workers }
 {
     1 <= workers && workers <= MOST_WORKERS
 }
@@ -50,7 +51,7 @@ fn run_next<N: Naming + Send + Sync, R: Threads + Wait, G: Gate>(
     workers: u32,
     gate: &G,
 ) -> Result<(), Shortage>
-    requires workers { are_workers workers ≡ true }
+    requires workers { may_work workers ≡ true }
     requires laid { levels.old.laid ≡ levels.old.taken }
     requires left { levels.old.taken < length levels.old.order.items }
     ensures context { levels.new.slots.context.now ≡ levels.old.slots.context.now }
@@ -74,7 +75,7 @@ fn run_all<N: Naming + Send + Sync, R: Threads + Wait, G: Gate>(
     workers: u32,
     gate: &G,
 ) -> Result<(), Shortage>
-    requires workers { are_workers workers ≡ true }
+    requires workers { may_work workers ≡ true }
     requires laid { levels.old.laid ≡ levels.old.taken }
     ensures context { levels.new.slots.context.now ≡ levels.old.slots.context.now }
     ensures laid { OnOk result (levels.new.laid ≡ length levels.new.order.items) }
@@ -94,7 +95,7 @@ fn settle_context<N: Naming + Send + Sync, R: Threads + Wait, G: Gate>(
     workers: u32,
     gate: &G,
 ) -> Result<Settled, Shortage>
-    requires workers { are_workers workers ≡ true }
+    requires workers { may_work workers ≡ true }
     ensures settled { IfOk result (λ s. IfSome N.day (λ d. s ≡ settled_day d)) }
     ensures of_book { IfOk result (λ s. IsOfBook context.now.book.now s) }
     ensures lack { IfErr result (IsShortage workers) }
@@ -115,7 +116,7 @@ fn settle_named<N: Naming + Send + Sync, R: Threads + Wait, G: Gate>(
     gate: &G,
 ) -> Result<Settled, WorkFault>
     requires day { IsNamed N.day book.now rules.now batch.now }
-    requires workers { are_workers workers ≡ true }
+    requires workers { may_work workers ≡ true }
     ensures answer { MatchResult result
         (λ s. (batch.now.base + 1 ≡ book.now.next) × IfSome N.day (λ d. s ≡ settled_day d))
         (IsWorkFault workers book.now batch.now) }
@@ -147,7 +148,7 @@ pub fn settle_waves<R: Threads + Wait, G: Gate>(
     gate: &G,
 ) -> Result<Settled, WorkFault>
     ensures settled { MatchResult result
-        (λ s. (are_workers workers ≡ true) × (batch.now.base + 1 ≡ book.now.next)
+        (λ s. (may_work workers ≡ true) × (batch.now.base + 1 ≡ book.now.next)
         × (s ≡ settled_day (day_of book.now rules.now batch.now)))
         (IsWorkFault workers book.now batch.now) }
     ensures of_book { IfOk result (λ s. IsOfBook book.now s) }

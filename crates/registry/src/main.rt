@@ -24,7 +24,6 @@ use std::convert::AsStr;
 use std::io::{Read, Write};
 use std::process::ExitCode;
 use std::rt::Env;
-use std::sync::Wait;
 use std::thread::Threads;
 use std::{env, io};
 
@@ -38,7 +37,7 @@ use std::{env, io};
 ///
 /// The memory that the command has used is not freed: the program ends with it.
 pub fn serve<
-    T: Threads + Wait + Sync,
+    T: Threads + Sync,
     S: AsStr,
     R: Source,
     I: ReadAt + Sync + Drop,

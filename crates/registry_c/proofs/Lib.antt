@@ -1,1 +1,2 @@
 mod Nobody
+mod Rooms

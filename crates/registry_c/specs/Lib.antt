@@ -1,4 +1,5 @@
 pub mod Answers
 pub mod Names
+pub mod Most
 pub mod Next
 pub mod Questions

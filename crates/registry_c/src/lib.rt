@@ -8,6 +8,7 @@
 
 ghost use Rattle.std.specs.Prelude.{◌≡◌, codes};
 ghost use Rattle.registry_c.specs.Answers.{Tells};
+ghost use Rattle.registry_c.specs.Most.{room_most};
 ghost use Rattle.registry_c.specs.Names.{TellsText, cause_with, check_with};
 ghost use Rattle.registry_c.specs.Names.{sentence_of_check, word_of_cause, word_of_check};
 ghost use Rattle.registry_c.specs.Next.{TellsNext};
@@ -16,6 +17,7 @@ ghost use Rattle.registry_c.specs.declared.question.Question.TheVariants.{Report
 
 mod answer;
 mod fault;
+mod most;
 mod names;
 mod next;
 mod question;
@@ -24,6 +26,7 @@ mod texts;
 use crate::answer::{tell, tell_next, tell_text};
 pub use answer::Answer;
 pub use fault::Fault;
+pub use most::each_report_has_room;
 pub use question::Question;
 use std::alloc::Global;
 
@@ -39,6 +42,15 @@ pub extern "C" fn registry_settle(alloc: Global, day: &[u8], room: &mut [u8]) ->
     ensures { Tells Report day.now result room.old room.new }
 {
     tell(alloc, Question::Report, day, room)
+}
+
+/// How many bytes the report of a day text of this length has at most: eight times as many, or the largest number if
+/// that is more. By the law [`each_report_has_room`] one call of [`registry_settle`] with so much room is enough.
+#[unsafe(no_mangle)]
+pub extern "C" fn registry_report_most(day_length: usize) -> usize
+    ensures { result ≡ room_most day_length }
+{
+    most::room_for_report(day_length)
 }
 
 /// Settles the day as a trial: the log rows of its report alone, which say why each instruction is done or refused.

@@ -127,7 +127,16 @@ fn digest_of_pieces(pieces: &[Vec<u8>]) -> Digest {
     digest
 }
 
-// Spells the report of a day by so many threads, or by one if it is to be none.
+// One text that is no longer needed.
+fn make_spare(alloc: Global) -> Result<Vec<Vec<u8>>, NoMemory> {
+    let mut text = Vec::new(alloc);
+    text.extend_from_slice(b"no longer needed")?;
+    let mut spare = Vec::new(alloc);
+    spare.push(text)?;
+    Ok(spare)
+}
+
+// Spells the report of a day by so many threads, or by one if it is to be none, in the place of a text.
 fn spell_pieces<R: Threads + Sync>(
     rt: &R,
     alloc: Global,
@@ -136,10 +145,11 @@ fn spell_pieces<R: Threads + Sync>(
     threads: u32,
 ) -> Result<Vec<Vec<u8>>, NoMemory> {
     let (parts, batch) = (&day.parts, &day.batch);
+    let spare = make_spare(alloc)?;
     if threads == 0 {
-        return write_report_pieces(rt, alloc, parts, batch, replies, 1);
+        return write_report_pieces(rt, alloc, parts, batch, replies, spare, 1);
     }
-    write_report_pieces(rt, alloc, parts, batch, replies, threads as usize)
+    write_report_pieces(rt, alloc, parts, batch, replies, spare, threads as usize)
 }
 
 // A copy of a reply.

@@ -5,7 +5,7 @@ ghost use Rattle.reg_front.specs.Faulting.{sink_of, source_of};
 ghost use Rattle.reg_front.specs.Streams.{CanFail};
 
 use reg_base::AccountNo;
-use reg_front::{Command, Counted, Faulty, FrontFault, run, run_plan, tell_fault};
+use reg_front::{Command, Counted, Faulty, FrontFault, run, tell_fault};
 use std::alloc::Global;
 use std::io;
 use std::io::{Read, Write};
@@ -170,11 +170,12 @@ fn reports_a_writer_of_which_the_flush_alone_fails(rt: HostRuntime) {
         flushes: 0,
     };
     let mut reader = Counted::new(DAY.as_bytes());
-    let answer = run_plan(
+    let answer = run(
         &rt,
         rt.alloc(),
         &mut reader,
         &mut Counted::new(&mut clogged),
+        Command::Plan,
     );
     assert_eq!(rt; answer, Err(FrontFault::WriteFailed));
     assert_eq!(rt; clogged.taken, PLAN.len());
@@ -279,7 +280,7 @@ impl Write for Stumbling {
 fn tries_no_failed_read_again(rt: HostRuntime) {
     let mut reader = Counted::new(Stumbling { has_failed: false });
     let mut writer = make_device(&rt, rt.alloc(), "", 0);
-    let answer = run_plan(&rt, rt.alloc(), &mut reader, &mut writer);
+    let answer = run(&rt, rt.alloc(), &mut reader, &mut writer, Command::Plan);
     assert_eq!(rt; answer, Err(FrontFault::Read));
 }
 
@@ -287,6 +288,6 @@ fn tries_no_failed_read_again(rt: HostRuntime) {
 fn tries_no_failed_write_again(rt: HostRuntime) {
     let mut reader = Counted::new(DAY.as_bytes());
     let mut writer = Counted::new(Stumbling { has_failed: false });
-    let answer = run_plan(&rt, rt.alloc(), &mut reader, &mut writer);
+    let answer = run(&rt, rt.alloc(), &mut reader, &mut writer, Command::Plan);
     assert_eq!(rt; answer, Err(FrontFault::WriteFailed));
 }

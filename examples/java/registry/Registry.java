@@ -47,6 +47,17 @@ public final class Registry {
         return ask(SETTLE, day, 0);
     }
 
+    /**
+     * How many bytes the report of a day text of this length has at most: eight times as many, or {@code Long.MAX_VALUE}
+     * if that is more. It was proved.
+     */
+    public static long reportMost(long dayLength) {
+        if (dayLength < 0) {
+            throw new IllegalArgumentException("there is no text of " + dayLength + " bytes");
+        }
+        return most(dayLength);
+    }
+
     /** The log of the day alone: why each instruction is done or refused. */
     public static String attempt(byte[] day) throws Fault {
         return ask(TRY, day, 0);
@@ -132,6 +143,8 @@ public final class Registry {
         }
         throw new OutOfMemoryError("the registry library ran out of memory");
     }
+
+    private static native long most(long dayLength);
 
     private static native String words(int which, int number);
 

@@ -42,6 +42,18 @@ pub fn settle(day: &[u8]) -> Result<Report, Fault> {
     native::settle(day).map(Report::from_text)
 }
 
+/// How many bytes the report of a day text of this length has at most: eight times as many, or `usize::MAX` if that is
+/// more. It was proved.
+///
+/// ```
+/// let day = std::fs::read("../first-transfer.csv")?;
+/// assert!(registry::settle(&day)?.text().len() <= registry::report_most(day.len()));
+/// # Ok::<(), Box<dyn std::error::Error>>(())
+/// ```
+pub fn report_most(day_length: usize) -> usize {
+    native::report_most(day_length)
+}
+
 /// The log of the day as a trial: why each instruction is done or refused.
 ///
 /// ```

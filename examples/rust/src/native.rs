@@ -19,6 +19,7 @@ const NO_DATE: u32 = 6;
 
 extern "C" {
     fn registry_settle(day: *const u8, day_length: usize, room: *mut u8, room_length: usize) -> Answer;
+    fn registry_report_most(day_length: usize) -> usize;
     fn registry_try(day: *const u8, day_length: usize, room: *mut u8, room_length: usize) -> Answer;
     fn registry_plan(day: *const u8, day_length: usize, room: *mut u8, room_length: usize) -> Answer;
     fn registry_figures(day: *const u8, day_length: usize, room: *mut u8, room_length: usize) -> Answer;
@@ -75,6 +76,11 @@ fn command(call: Call, day: &[u8]) -> Result<Vec<u8>, Fault> {
 
 pub(crate) fn settle(day: &[u8]) -> Result<Vec<u8>, Fault> {
     command(registry_settle, day)
+}
+
+pub(crate) fn report_most(day_length: usize) -> usize {
+    // SAFETY: it takes and gives numbers alone.
+    unsafe { registry_report_most(day_length) }
 }
 
 pub(crate) fn attempt(day: &[u8]) -> Result<Vec<u8>, Fault> {

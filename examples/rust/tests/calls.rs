@@ -29,6 +29,16 @@ fn a_day_is_settled() {
 }
 
 #[test]
+fn no_report_is_longer() {
+    for name in ["first-transfer", "morning-batch", "distribution", "compliance-year", "second-period"] {
+        let day = example(&format!("{name}.csv"));
+        assert!(registry::settle(&day).unwrap().text().len() <= registry::report_most(day.len()));
+    }
+    assert_eq!([0, 1, 1000].map(registry::report_most), [0, 8, 8000]);
+    assert_eq!(registry::report_most(usize::MAX), usize::MAX);
+}
+
+#[test]
 fn a_trial_is_the_log_of_the_report() {
     let day = example("morning-batch.csv");
     let log = registry::attempt(&day).unwrap();

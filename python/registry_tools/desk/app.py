@@ -1,4 +1,5 @@
 """The desk as a Flask application: its addresses, and what its pages have in common."""
+import datetime
 import functools
 import secrets
 from pathlib import Path
@@ -8,15 +9,14 @@ import flask
 from werkzeug.exceptions import HTTPException
 from werkzeug.wrappers import Response
 
-from registry_tools.desk import gate, pages, posts, questions, tables, words
-from registry_tools.desk.served import Served
-from registry_tools.desk.shown import TYPED
+from registry_tools.desk import gate, pages, posts, questions, shown, words
+from registry_tools.desk.gate import Served
 from registry_tools.errors import FileFault, WordsFault
-from registry_tools.pages import html
+from registry_tools.pages import beside, html
 from registry_tools.pages.rulebook import FORMATS, RULES
 from registry_tools.pages.settled import long_date
 from registry_tools.second import faults
-from registry_tools.texts.checks import advice_for, checks
+from registry_tools.texts.checks import checks
 from registry_tools.texts.in_words import grouped
 
 # An upload is at most as large as a text may be, and a form without files much smaller.
@@ -24,13 +24,14 @@ MOST_BYTES, MOST_FORM = 1 << 30, 1 << 20
 SECTIONS = {
     "/": "Today", "/hand-in": "Hand in", "/next": "The next day", "/change": "Change", "/close": "Close",
     "/days": "Days", "/accounts": "Accounts", "/compliance": "Compliance", "/month": "Months", "/find": "Find",
-    "/journal": "Journal", "/audit": "Audit", "/send": "Send",
+    "/names": "Names", "/journal": "Journal", "/audit": "Audit", "/send": "Send",
 }  # fmt: skip
 # What a desk that only looks has no use for.
 OF_CHANGES = {"/hand-in", "/change", "/close"}
 GET: dict[str, Callable[..., Any]] = {
     "/": pages.today, "/hand-in": pages.hand_in, "/next": pages.next_day, "/change": pages.change,
-    "/close": pages.close, "/days": pages.days, "/days/<string(length=10):word>": pages.day, "/name": pages.name,
+    "/close": pages.close, "/days": pages.days, "/days/<string(length=10):word>": pages.day, "/undo": pages.undo,
+    "/release": pages.release, "/name": pages.name, "/names": questions.names,
     "/accounts": questions.accounts, "/accounts/<int:number>": questions.account, "/compliance": questions.compliance,
     "/month": questions.month_page, "/find": questions.find, "/find.<any(csv, xlsx):kind>": questions.find_file,
     "/table.<any(csv, xlsx):kind>": questions.table_file,
@@ -43,8 +44,8 @@ POST: dict[str, Callable[..., Any]] = {
     "/next/seen": functools.partial(posts.begin, command="try"),
     "/put-right": functools.partial(posts.begin, command="status"),
     "/change/look": posts.look_at_change, "/change/make": posts.make_change, "/close/settle": posts.settle,
-    "/days/undo": posts.undo, "/days/release": posts.release, "/approve": posts.approve, "/audit/begin": posts.audit,
-    "/send/begin": posts.send,
+    "/undo/yes": posts.undo, "/release/yes": posts.release, "/names/look": posts.look_at_names,
+    "/names/give": posts.give_names, "/approve": posts.approve, "/audit/begin": posts.audit, "/send/begin": posts.send,
 }  # fmt: skip
 # What somebody may begin who changes nothing.
 OF_LOOKING = {"/name", "/audit/begin", "/send/begin"}
@@ -63,9 +64,9 @@ def make(served: Served) -> flask.Flask:
     app.request_class = Request
     # (cookies know no ports: another desk has another one)
     app.config.update(
-        OFFICE=str(served.path), SECRET_KEY=secrets.token_bytes(32), MAX_CONTENT_LENGTH=MOST_BYTES,
-        MAX_FORM_MEMORY_SIZE=MOST_FORM, SESSION_COOKIE_NAME=f"desk-{served.host.rpartition(':')[2]}",
-        SESSION_COOKIE_HTTPONLY=True, SESSION_COOKIE_SAMESITE="Strict",
+        PATHS=(str(served.path), str(served.jobs.private)), SECRET_KEY=secrets.token_bytes(32),
+        MAX_CONTENT_LENGTH=MOST_BYTES, MAX_FORM_MEMORY_SIZE=MOST_FORM,
+        SESSION_COOKIE_NAME=f"desk-{served.host.rpartition(':')[2]}", SESSION_COOKIE_HTTPONLY=True, SESSION_COOKIE_SAMESITE="Strict",
     )  # fmt: skip
     # (the gate stands before all pages, also those that are not there)
     app.before_request(functools.partial(gate.let_in, served))
@@ -109,17 +110,12 @@ def failed(served: Served, error: Exception) -> Any:
     if isinstance(error, OSError):
         name = Path(str(error.filename or "the folder")).name
         return gate.said(500, f"{name}: it cannot be read or written: {error.strerror or 'for a reason not known'}")
-    return gate.said(409 if isinstance(error, FileFault) else 400, str(error), back=way_back())
-
-
-def way_back() -> str:
-    """The address of the form that was sent, with what was typed; nothing, if there is none."""
-    asked, path = flask.request, "/" + flask.request.path.split("/")[1]
-    if asked.method == "GET":
-        return tables.address(typed=1) if asked.path in SECTIONS and asked.args and TYPED not in asked.args else ""
-    typed = {name: own for name, own in asked.form.to_dict(flat=False).items() if name not in posts.OF_PAGE}
-    kept: dict[str, object] = {name: [word[: posts.LONGEST_FIELD] for word in words] for name, words in typed.items()}
-    return tables.address_of(path if path in GET else "/", kept)
+    if flask.request.method == "POST":
+        back = posts.way_back()
+    else:
+        is_typed = flask.request.path in SECTIONS and flask.request.args and shown.TYPED not in flask.request.args
+        back = shown.address(typed=1) if is_typed else ""
+    return gate.said(409 if isinstance(error, FileFault) else 400, str(error), back=back)
 
 
 def dress(app: flask.Flask, served: Served) -> None:
@@ -127,14 +123,16 @@ def dress(app: flask.Flask, served: Served) -> None:
     sections = {path: name for path, name in SECTIONS.items() if not (served.is_look and path in OF_CHANGES)}
     app.jinja_env.globals.update(
         sections=sections, is_look=served.is_look, office=served.path.name,
-        token=lambda: flask.session["token"], number=lambda: secrets.token_hex(8), state=lambda: flask.g.state,
+        token=lambda: flask.session["token"], once=lambda: secrets.token_hex(8), state=lambda: flask.g.state,
         who=lambda: gate.known_name(served), says_name=not served.who and not served.header,
-        has_leftovers=served.reading.has_leftovers, apart=words.apart,
-        table=tables.sorted_table, address=tables.address, acts=faults.ACT_WORDS, lag_words=words.LAGS,
-        meaning=lambda name: checks()[name].meaning, advice=advice_for,
+        has_leftovers=served.reading.has_leftovers, apart=beside.apart,
+        table=shown.sorted_table, acts=faults.ACT_WORDS, lag_words=words.LAGS,
+        meaning=lambda name: checks()[name].meaning,
     )  # fmt: skip
-    app.jinja_env.filters.update(grouped=grouped, local=words.local, label=words.label, date=long_date)
-    app.jinja_env.filters["called"] = lambda word: words.CALLED.get(word, word)
+    app.jinja_env.filters.update(
+        grouped=grouped, local=words.local, label=words.label, date=long_date,
+        called=lambda word: long_date(word) if isinstance(word, datetime.date) else beside.called(word),
+    )
     app.jinja_env.trim_blocks = app.jinja_env.lstrip_blocks = True
 
 

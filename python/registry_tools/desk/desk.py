@@ -61,7 +61,8 @@ def serve(path: Path, port: int, who: str | None, header: str | None, is_look: b
     import waitress
 
     from registry_tools.desk import app
-    from registry_tools.desk.served import Served, private_folder
+    from registry_tools.desk.gate import Served
+    from registry_tools.desk.jobs import private_folder
 
     # (a server lives for days, and a command would leave its circles to its end)
     gc.enable()

@@ -1,70 +1,97 @@
 """What forms offer, and what they say: of one instruction a table with one row, as a spreadsheet would save it; of a
 change by hand the words of ./day change. What is right of it, the commands look at."""
 import csv
-import datetime
 import io
 import itertools
-from typing import Any, Iterator, Mapping
+from dataclasses import dataclass
+from typing import Iterable, Iterator, Mapping, Sequence
 
 from registry_tools.desk.reading import Reading
+from registry_tools.desk.words import LAGS, label
 from registry_tools.errors import WordsFault
+from registry_tools.pages.beside import called
 from registry_tools.second import faults, rules
 from registry_tools.sheets import columns as sheets
 from registry_tools.sheets import importing
 from registry_tools.sheets.sheets import read_content
+from registry_tools.tables import RIGHTS, YES_NO
 from registry_tools.texts.accounts import Block
 from registry_tools.texts.day_text import DayText
 from registry_tools.texts.in_words import grouped
 from registry_tools.texts.rows import text_of_rows
 
-# What may be chosen for a field of an instruction.
+# What may be chosen for a field of an instruction, and which fields are accounts.
 CHOICES = {"kind": rules.KINDS, "status": faults.STATUSES}
+OF_ACCOUNTS = {"from", "account", "other", "to", *(f"to{place}" for place in sheets.LATER_SHARES)}
+LATER = {f"{name}{place}" for name in ("to", "amount") for place in sheets.LATER_SHARES}
 # How many working days before the next day, and behind it, are offered as the day of a proposal.
 BEFORE, BEHIND = 15, 5
-KEEP, DROP = "keep", "leave out"
-# The fields that add something to the rules, with the words that do so.
-ADDED = {"new_admin": "--admin=+", "working": "--working=", "not_working": "--not-working="}
+OTHER, KEEP, DROP = "another day", "keep", "leave out"
 OTHER_ROWS = ("emissions", "figure")
-PAIRS = [*itertools.product(faults.ACCOUNT_KINDS, rules.KINDS)]
-
+NUMERIC, NEEDED = 'inputmode="numeric"', 'inputmode="numeric" required'
+# So many working days are offered that are to be none any more, and so many accounts.
+MOST_WORKING, MOST_OFFERED = 30, 1_000
 Said = Mapping[str, str]
+
+
+@dataclass(frozen=True)
+class Field:
+    """A field of a form: its name, its label, what is there now, and what may be chosen. A change has the word of a
+    command that asks for something else, and perhaps the one that leaves it out."""
+
+    name: str
+    label: str
+    now: object = ""
+    options: Sequence[object] = ()
+    word: str = ""
+    drop: str = ""
+    more: str = NUMERIC
+
+
+def accounts_offered(own: Reading) -> list[tuple[int, str]]:
+    """The numbers of accounts with what somebody knows them by, and what they hold."""
+    settled, holder = own.settled(), own.names().holder
+    blocks = itertools.islice(settled.report.book.values() if settled else [], MOST_OFFERED)
+    rows = (block.rows[0].split(",") for block in blocks)
+    return [
+        (int(row[1]), f"{row[2]} of {holder(row[3])}, {row[4]}: general {grouped(row[8])}, aviation {grouped(row[9])}")
+        for row in rows
+    ]
 
 
 # One instruction.
 
 
-def accounts_offered(own: Reading, most: int) -> list[tuple[int, str]]:
-    """The numbers of accounts with what somebody knows them by, and what they hold."""
-    settled, names = own.settled(), own.names()
-    blocks = itertools.islice(settled.report.book.values() if settled else [], most)
-    return [(block.number, words_of_account(block.rows[0].split(","), names.holder)) for block in blocks]
-
-
-def words_of_account(row: list[str], holder: Any) -> str:
-    """An account in a line, of its first row; `holder` tells the name of a number."""
-    held = f"general {grouped(row[8])}, aviation {grouped(row[9])}"
-    return f"{row[2]} of {holder(row[3])}, {row[4]}: {held}"
-
-
-def dates_of_proposal(own: Reading) -> list[tuple[datetime.date, bool]]:
-    """The days on which an instruction may have been proposed, of which that of the next day is chosen."""
+def instruction_fields(own: Reading, act: str) -> list[Field]:
+    """What the form of an instruction asks for."""
+    proposed: list[object] = [OTHER]
     try:
         day = own.text_of_next().head
+        days = [date for date in day.working_days if date != day.date]
+        before, behind = ([date for date in days if is_so(date)] for is_so in (day.date.__gt__, day.date.__lt__))
+        proposed = [*before[-BEFORE:], day.date, *behind[:BEHIND], OTHER]
+        now: object = day.date
     except WordsFault:
-        return []
-    before = [date for date in day.working_days if date < day.date][-BEFORE:]
-    behind = [date for date in day.working_days if date > day.date][:BEHIND]
-    return [(date, date == day.date) for date in [*before, day.date, *behind]]
+        # (the next day cannot be made: its own page says why)
+        now = OTHER
+    columns = sheets.columns_of_act(act)
+    return [
+        Field("proposed", label("proposed"), now, proposed),
+        Field("other_day", "Another day, as 2025-09-24, if it is none of these", more=""),
+        Field("proposer", label("proposer"), more=NEEDED), Field("approver", "User who approves, if there is one"),
+        *(Field(name, label(name), "", CHOICES.get(name, ()),
+                more=NUMERIC + (' list="accounts"' if name in OF_ACCOUNTS else "")) for name in columns),
+    ]  # fmt: skip
 
 
 def table_of_instruction(said: Said) -> str:
-    """The table that the form of an instruction says."""
+    """The table that the form of an instruction says. Raises WordsFault if it says no act."""
     act = said.get("act", "")
     if act not in faults.ACT_WORDS:
         raise WordsFault("no act was chosen")
     columns = [*sheets.PROPOSAL, *sheets.columns_of_act(act)]
     cells = {name: said.get(name, "").strip() for name in columns}
-    if cells["proposed"] == "other":
+    if cells["proposed"] == OTHER:
         cells["proposed"] = said.get("other_day", "").strip()
     filled = [name for name in columns if cells[name] or name in sheets.PROPOSAL]
     stream = io.StringIO()
@@ -80,83 +107,80 @@ def rows_of_typed(table: str) -> bytes:
     return content if made.wrong else text_of_rows(made.rows)
 
 
-# A change by hand: what the form shows, and the words that it says.
+# A change by hand.
 
 
-def account_fields(block: Block, periods: int) -> dict[str, Any]:
-    """What the form of an account shows: what it is now, with a correction for each of so many periods."""
-    row = block.rows[0].split(",")
-    lists = [own.split(",") for own in block.list_rows]
-    corrections = {own[1]: own[2] for own in lists if own[0] == "correction"}
-    return {
-        "kind": row[2], "own": {"holder": row[3], "outside": row[5], "waiver": row[6]},
-        "corrections": {"1": row[7], **{str(own): corrections.get(str(own), "0") for own in range(2, periods + 1)}},
-        "users": {own[1]: own[2] for own in lists if own[0] == "user"},
-        "years": [(own[0], own[1], own[2]) for own in lists if own[0] in OTHER_ROWS],
-    }  # fmt: skip
+def account_fields(block: Block, periods: int) -> Iterator[Field]:
+    """What may be changed of an account, with a correction for each of so many periods."""
+    row, lists = block.rows[0].split(","), [own.split(",") for own in block.list_rows]
+    yield Field("holder", "Holder", row[3], word="--holder={}")
+    yield Field("outside", "Transfers outside the trusted list", row[5], YES_NO, "--outside={}")
+    yield Field("waiver", "Waiver of approval", row[6], YES_NO, "--waiver={}")
+    for user, right in (own[1:3] for own in lists if own[0] == "user"):
+        options = [KEEP, *(other for other in RIGHTS if other != right), DROP]
+        words = f"--user=+{user}:{{}}", f"--user=-{user}"
+        yield Field(f"user-{user}", f"User {user} may {called(right)}", KEEP, options, *words)
+    yield from new_user("One more user")
+    corrections = {"1": row[7], **{own[1]: own[2] for own in lists if own[0] == "correction"}}
+    for period in map(str, range(1, periods + 1)):
+        said, word = f"Correction factor of period {period}", f"--correction={period}:{{}}"
+        yield Field(f"correction-{period}", said, corrections.get(period, "0"), word=word)
+    for tag, year, value in (own[:3] for own in lists if own[0] in OTHER_ROWS):
+        said = f"{tag.capitalize()} of {year}: {grouped(value)}"
+        yield Field(f"{tag}-{year}", said, KEEP, [KEEP, DROP], drop=f"--leave-out={tag}:{year}")
 
 
-def rule_fields(day: DayText) -> dict[str, Any]:
-    """What the form of the rules shows."""
-    rows = [row.split(",") for row in day.heading]
-    there = {tuple(row[1:]) for row in rows if row[0] == "surrender"}
-    return {
-        "admins": [row[1] for row in rows if row[0] == "admin"], "periods": day.head.periods,
-        "current": day.head.current, "lags": day.head.lags, "pairs": [(pair, pair in there) for pair in PAIRS],
-        "working": [*filter(lambda own: own > day.head.date, day.head.working_days)][:30],
-    }  # fmt: skip
+def new_user(words: str) -> Iterator[Field]:
+    """What is asked for of one more user."""
+    yield Field("new_user", words)
+    yield Field("new_right", "who may", "both", RIGHTS)
 
 
-def words_of_change(said: Said, own: Reading) -> list[str]:
-    """The words of ./day change that a form says: of what differs from what is there."""
-    day, of = own.text_of_next(), said.get("of", "")
+def new_fields() -> Iterator[Field]:
+    """What is asked for of a new account."""
+    yield Field("number_of_account", "Number of the new account", more=NEEDED)
+    yield Field("kind", "Kind", "trading", faults.ACCOUNT_KINDS)
+    yield Field("holder", "Holder", more=NEEDED)
+    yield from new_user("Its first user, if it has one")
+
+
+def rule_fields(day: DayText) -> Iterator[Field]:
+    """What may be changed of the rules."""
+    rows, head = [row.split(",") for row in day.heading], day.head
+    for admin in (row[1] for row in rows if row[0] == "admin"):
+        yield Field(f"admin-{admin}", f"Administrator {admin}", KEEP, [KEEP, DROP], drop=f"--admin=-{admin}")
+    yield Field("new_admin", "One more administrator", word="--admin=+{}")
+    yield Field("first", "One more period: its first year")
+    yield Field("last", "and its last year")
+    yield Field("current", "The current period", head.current, word="--current={}")
+    yield from (Field(f"lag-{lag}", LAGS[lag], days, word=f"--lag={lag}:{{}}") for lag, days in head.lags.items())
+    for of, kind in itertools.product(faults.ACCOUNT_KINDS, rules.KINDS):
+        is_there = ["surrender", of, kind] in rows
+        said, word = f"Accounts of the kind {of} may surrender {kind} allowances", f"{'-+'[not is_there]}{of}:{kind}"
+        yield Field(f"pair-{of}-{kind}", said, YES_NO[not is_there], YES_NO, f"--surrender={word}")
+    yield Field("working", "A day that becomes a working day, as 2025-12-29", word="--working={}", more="")
+    later = [*filter(head.date.__lt__, head.working_days)][:MOST_WORKING]
+    yield Field("not_working", "A day that is no working day any more", "", ["", *later], "--not-working={}")
+
+
+def words_of_change(said: Said, own: Reading) -> Iterator[str]:
+    """The words of ./day change that a form says: of what differs from what is there. Raises WordsFault if there is no
+    such account."""
+    day, of, number = own.text_of_next(), said.get("of", ""), said.get("account", "")
+    fields: Iterable[Field] = rule_fields(day) if of == "rules" else ()
     if of == "account":
-        return [*account_words(said, day)]
-    if of == "rules":
-        return [*rule_words(said, rule_fields(day))]
-    if of == "new":
-        fields = (said.get(name, "") for name in ("number_of_account", "kind", "holder"))
-        return [f"--open-account={','.join(fields)}", *new_user(said)]
-    raise WordsFault("nothing to change was chosen")
-
-
-def account_words(said: Said, day: DayText) -> Iterator[str]:
-    """The words of `./day change` that a form of an account asks for. Raises WordsFault if there is no such account."""
-    number = said.get("account", "")
-    if not number.isascii() or not number.isdigit() or int(number[:10]) not in day.book:
-        raise WordsFault("there is no such account in the next day's text")
-    now = account_fields(day.book[int(number)], len(day.head.periods))
-    yield number
-    yield from (f"--{name}={asked}" for name, asked in changed(said, now["own"]))
-    for user, asked in changed(said, now["users"], "user-"):
-        yield f"--user=-{user}" if asked == DROP else f"--user=+{user}:{asked}"
-    yield from new_user(said)
-    yield from (f"--correction={period}:{asked}" for period, asked in changed(said, now["corrections"], "correction-"))
-    yield from (f"--leave-out={tag}:{year}" for tag, year, _ in now["years"] if said.get(f"{tag}-{year}") == DROP)
-
-
-def changed(said: Said, now: Mapping[str, Any], start: str = "") -> Iterator[tuple[str, str]]:
-    """What a form says of these fields, whose names in it begin so: of those that it says something else of."""
-    for name, value in now.items():
-        asked = said.get(f"{start}{name}", KEEP)
-        if asked not in (KEEP, str(value)):
-            yield name, asked
-
-
-def new_user(said: Said) -> Iterator[str]:
-    """The word that adds a representative, if the form names one."""
-    if said.get("new_user"):
-        yield f"--user=+{said['new_user']}:{said.get('new_right', '')}"
-
-
-def rule_words(said: Said, now: dict[str, Any]) -> Iterator[str]:
-    """The words of `./day change` that a form of the rules asks for; `now` is what they are."""
-    yield from (f"--admin=-{admin}" for admin in now["admins"] if said.get(f"admin-{admin}") == DROP)
-    if said.get("first") or said.get("last"):
+        if not number.isascii() or not number.isdigit() or int(number[:10]) not in day.book:
+            raise WordsFault("there is no such account in the next day's text")
+        yield number
+        fields = account_fields(day.book[int(number)], len(day.head.periods))
+    for field in fields:
+        asked = said.get(field.name, str(field.now))
+        word = field.drop if asked == DROP else field.word.format(asked)
+        if word and asked != str(field.now):
+            yield word
+    if of == "rules" and (said.get("first") or said.get("last")):
         yield f"--period={said.get('first', '')}-{said.get('last', '')}"
-    yield from (f"--current={asked}" for _, asked in changed(said, {"current": now["current"]}))
-    yield from (f"--lag={name}:{asked}" for name, asked in changed(said, now["lags"], "lag-"))
-    for pair, is_there in now["pairs"] if said.get("has_pairs") else []:
-        if bool(said.get("pair-" + "-".join(pair))) != is_there:
-            yield f"--surrender={'-' if is_there else '+'}{':'.join(pair)}"
-    yield from (f"{word}{said[name]}" for name, word in ADDED.items() if said.get(name))
+    if of == "new":
+        yield f"--open-account={','.join(said.get(name, '') for name in ('number_of_account', 'kind', 'holder'))}"
+    if of != "rules" and said.get("new_user"):
+        yield f"--user=+{said['new_user']}:{said.get('new_right', '')}"

@@ -1,15 +1,17 @@
-"""Who gets in. The desk answers one address alone, to browsers that came by its link; a change needs the token of a
-form that this browser was shown."""
+"""What a desk serves, and who gets in. It answers one address alone, to browsers that came by its link; a change needs
+the token of a form that this browser was shown."""
 import hmac
 import re
 import secrets
+from pathlib import Path
 from typing import Any
 
 import flask
 from werkzeug.wrappers import Response
 
-from registry_tools.desk import words
-from registry_tools.desk.served import Served
+from registry_tools.desk.jobs import Jobs
+from registry_tools.desk.reading import Reading
+from registry_tools.desk.shown import show_page
 from registry_tools.errors import WordsFault
 from registry_tools.office import people
 from registry_tools.office.words import one_line
@@ -33,6 +35,19 @@ NO_NAME = "The proxy before this desk has to say who you are, and it does not."
 LONGEST_NAME = 80
 
 
+class Served:
+    """A folder with who works at it. `host` is the one address by which it is asked, `header` that of a proxy which
+    names who it is, `who` the one name of a desk that has only one."""
+
+    def __init__(
+        self, path: Path, host: str, private: Path, who: str | None, header: str | None, is_look: bool
+    ) -> None:
+        self.path, self.host, self.who, self.header, self.is_look = path, host, who, header, is_look
+        # What the link has: 128 bits.
+        self.key = secrets.token_urlsafe(16)
+        self.reading, self.jobs = Reading(path, private), Jobs(path, private)
+
+
 def let_in(served: Served) -> Any:
     """Answers nothing to who may go on, or why not."""
     request = flask.request
@@ -46,7 +61,9 @@ def let_in(served: Served) -> Any:
     if served.header is not None and not name_of_proxy(served):
         return said(403, NO_NAME)
     if request.method == "POST":
-        return refuse_form()
+        token = request.form.get("token", "").encode("utf-8", "replace")
+        is_own = hmac.compare_digest(token, flask.session["token"].encode())
+        return None if is_own else said(403, OTHER_FORM)
     return None if request.method in ("GET", "HEAD") else said(405, NO_METHOD)
 
 
@@ -60,12 +77,6 @@ def enter(served: Served, key: str) -> Any:
     return flask.render_template("entered.html")
 
 
-def refuse_form() -> Any:
-    """Why a form is not taken; nothing, if it is one of this browser."""
-    token = flask.request.form.get("token", "").encode("utf-8", "replace")
-    return None if hmac.compare_digest(token, flask.session["token"].encode()) else said(403, OTHER_FORM)
-
-
 def with_headers(response: Response) -> Response:
     """An answer with the headers that keep a browser from what the desk does not send."""
     response.headers.update(HEADERS)
@@ -76,12 +87,7 @@ def said(code: int, text: str, is_again: bool = False, back: str = "") -> Respon
     """A page that says one thing. `is_again`: it leads to the page that was asked for; `back` is a form."""
     path = flask.request.full_path.rstrip("?") if is_again and flask.request.method == "GET" else ""
     # (two slashes would lead to another host)
-    path = "/" + path.lstrip("/\\") if path else ""
-    page = flask.render_template(
-        "base.html", page="said.html", title="No", text=text, path=path, back=back,
-        is_in="token" in flask.session,
-    )
-    return flask.make_response(words.seen(page, flask.current_app.config["OFFICE"]), code)
+    return show_page("said", "No", code, text=text, path="/" + path.lstrip("/\\") if path else "", back=back)
 
 
 # Who it is.

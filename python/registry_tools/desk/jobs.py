@@ -1,6 +1,9 @@
 """What the desk has a command do: each change, and what takes long. A command is a process of its own, as somebody at a
-terminal would start it, with its lock, its working folder, its streams and its end."""
+terminal would start it, with its lock, its working folder, its streams and its end. Uploads and the answers of commands
+lie in a private folder: nobody else can read it, and it is gone when the desk ends. What a killed desk left, the next
+one takes away."""
 import contextlib
+import fcntl
 import os
 import secrets
 import shutil
@@ -12,9 +15,10 @@ import threading
 import time
 from dataclasses import dataclass, field
 from pathlib import Path
-from typing import Callable, Protocol
+from typing import Callable, Iterator, Protocol
 
-from registry_tools.errors import WordsFault
+from registry_tools.errors import FOUND, WordsFault
+from registry_tools.office.approvals import ASKED_FOR
 from registry_tools.progress import ASKED
 from registry_tools.streams import names
 
@@ -28,8 +32,11 @@ MOST_JOBS, UPLOAD_AGE = 200, 3_600
 MOST_SECONDS = 60.0
 # How a line of progress begins, and what a name of an upload may have.
 PROGRESS, LONGEST_NAME = "\r\033[K", 60
-# Where a command puts files that somebody takes with him.
-MADE = "made"
+# Where a command puts files that somebody takes with him; the private folder of a desk, and its lock.
+MADE, PREFIX, LOCK = "made", "day-desk-", "lock"
+# The commands whose status says what they found, and not that they did nothing.
+FINDING = ("hand-in", "audit", "try", "status")
+NOTHING = "Nothing was done."
 
 
 class Started(Protocol):
@@ -54,8 +61,9 @@ class Job:
     words: list[str]
     out: Path
     process: Started
-    # In which state whoever asked for it has seen the folder.
+    # In which state whoever asked for it has seen the folder, and where the form is that asked for it, as it was typed.
     seen: str
+    back: str
     at: float = field(default_factory=time.time)
 
     @property
@@ -73,14 +81,27 @@ class Job:
         """The last line that it wrote to standard error."""
         return next(reversed(self.said("stderr")), "")
 
+    def outcome(self) -> str:
+        """What came of it, in a sentence."""
+        status = self.status
+        if status is None:
+            return "At work"
+        if status == 0 or status == FOUND and self.command in FINDING:
+            is_audit = self.command == "audit"
+            return "Done." if not is_audit else "Something was found." if status else "Nothing was found."
+        is_asked_for = status == FOUND and any(ASKED_FOR in line for line in self.said("stdout"))
+        return "It is asked for, and waits for somebody else." if is_asked_for else NOTHING
+
+    def is_fault(self) -> bool:
+        """Whether it ended without doing what it was asked for."""
+        return self.outcome() == NOTHING
+
     def end_in_words(self) -> str:
         """How it ended, where it said nothing of a fault: it was killed, or its answer had no room."""
         status = self.status
-        if status is None or status in (0, 1) or self.said("stderr"):
+        if status is None or status in (0, FOUND) or self.said("stderr"):
             return ""
-        if status < 0:
-            return f"It was ended by signal {-status}."
-        return f"Its exit status is {status}, and it said no more."
+        return f"It was ended by signal {-status}." if status < 0 else f"Its exit status is {status}, without a word."
 
     def made(self) -> list[Path]:
         """The files that it made for whoever asked."""
@@ -108,7 +129,7 @@ class Jobs:
         self.uploads: dict[str, list[str]] = {}
 
     def start(
-        self, number: str, command: str, words: list[str], seen: str = "", upload: str = "", makes: bool = False
+        self, number: str, command: str, words: list[str], seen: str, back: str, upload: str, makes: bool
     ) -> Job:
         """Starts a command, or gives the one that this form has started. It works in the folder of an upload, whose
         files it names, or in its own; and a command that makes a folder is told one of its own."""
@@ -118,16 +139,13 @@ class Jobs:
             out = Path(tempfile.mkdtemp(prefix="job-", dir=self.private))
             own = [MADE] if makes else []
             line = [*COMMAND, names["./day"], command, *own, "--office", str(self.office), *words]
-            job = Job(number, command, words, out, self.begin(line, self.private / (upload or out), out), seen)
+            job = Job(number, command, words, out, self.begin(line, self.private / (upload or out), out), seen, back)
             self.jobs[number] = job
-            self.forget_old()
+            # (the first ones of many are forgotten, with what they wrote)
+            for old in [*self.jobs.values()][: max(len(self.jobs) - MOST_JOBS, 0)]:
+                if old.status is not None:
+                    shutil.rmtree(self.jobs.pop(old.number).out, ignore_errors=True)
         return job
-
-    def forget_old(self) -> None:
-        """Forgets the first jobs of many, with what they wrote."""
-        for old in [*self.jobs.values()][: max(len(self.jobs) - MOST_JOBS, 0)]:
-            if old.status is not None:
-                shutil.rmtree(self.jobs.pop(old.number).out, ignore_errors=True)
 
     def of(self, *commands: str) -> list[Job]:
         """The jobs of these commands, the last one first."""
@@ -177,3 +195,25 @@ class Jobs:
         if name not in self.uploads:
             raise WordsFault("the files are not here any more: choose them again")
         return [self.private / name / own for own in self.uploads[name]]
+
+
+@contextlib.contextmanager
+def private_folder() -> Iterator[Path]:
+    """A new folder for the time of the block, whose lock is held: so another desk leaves it alone."""
+    remove_left_folders(Path(tempfile.gettempdir()))
+    with tempfile.TemporaryDirectory(prefix=PREFIX, ignore_cleanup_errors=True) as own:
+        with open(Path(own) / LOCK, "wb") as lock:
+            fcntl.flock(lock, fcntl.LOCK_EX)
+            yield Path(own)
+
+
+def remove_left_folders(place: Path) -> None:
+    """Removes the folders of desks that were killed: nobody holds their locks."""
+    for own in place.glob(f"{PREFIX}*"):
+        with contextlib.suppress(OSError):
+            file = os.open(own / LOCK, os.O_RDWR | os.O_NOFOLLOW)
+            try:
+                fcntl.flock(file, fcntl.LOCK_EX | fcntl.LOCK_NB)
+                shutil.rmtree(own, ignore_errors=True)
+            finally:
+                os.close(file)

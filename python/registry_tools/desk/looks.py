@@ -1,5 +1,5 @@
-"""What would come of files and of changes by hand, before somebody says yes: they are put into a copy of next/, and
-tried by the functions behind the commands."""
+"""What would come of files, of changes by hand, of names and of taking a day back, before somebody says yes: by the
+functions behind the commands, in a copy of next/."""
 import contextlib
 import datetime
 import re
@@ -7,28 +7,25 @@ import shutil
 import tempfile
 from dataclasses import dataclass, field
 from pathlib import Path
-from typing import Iterator, NoReturn
+from typing import Any, Iterator
 
 from registry_tools.desk.reading import Reading
 from registry_tools.desk.words import label
 from registry_tools.errors import FileFault, WordsFault
-from registry_tools.office import composing, hand_in, handed, handed_journal, trial
+from registry_tools.office import composing, hand_in, handed, handed_journal, label as labelling, trial, undo
 from registry_tools.office.changes import change
 from registry_tools.office.folder import Office
 from registry_tools.office.incoming import Forms
-from registry_tools.options import Words
-
+from registry_tools.office.journal import Event
+from registry_tools.options import TellingWords
+from registry_tools.pages.beside import item_in_words
+from registry_tools.texts.in_words import instruction_in_words
+from registry_tools.texts.pending import read_waits
 
 # What an instruction that was typed is called, and a cell of it in a message.
 TYPED = "typed at the desk.csv"
-CELL_TYPED = re.compile(re.escape(TYPED) + ", cell [A-Z]+2: ([a-z]+[2-8]?)")
-
-
-class TellingWords(Words):
-    """A parser of words that says by a fault what it does not take, and ends nothing."""
-
-    def error(self, message: str) -> NoReturn:
-        raise WordsFault(message)
+CELL_TYPED = re.compile("(?:.*/)?" + re.escape(TYPED) + ", cell [A-Z]+2: ([a-z]+[2-8]?)")
+Rows = list[tuple[Any, ...]]
 
 
 @dataclass
@@ -36,16 +33,13 @@ class Look:
     """What would come of files that somebody wants to hand in."""
 
     # What is wrong, if something is: then nothing else is known.
-    faults: list[str] = field(default_factory=list)
+    faults: list[str]
     # The file and the line of a row that the folder has had, and that may come once more if it is meant.
     meant: tuple[int, int] | None = None
-    # What comes once more.
-    again: list[str] = field(default_factory=list)
-    parts: list[handed.Part] = field(default_factory=list)
-    rows: list[tuple[str, list[str]]] = field(default_factory=list)
+    # What would be handed in, what would come of its instructions, and the first rows of each file.
+    added: hand_in.Added | None = None
     looked: list[trial.Looked] = field(default_factory=list)
-    notes: list[str] = field(default_factory=list)
-    date: datetime.date | None = None
+    rows: list[tuple[str, list[str]]] = field(default_factory=list)
 
 
 @contextlib.contextmanager
@@ -70,19 +64,14 @@ def look_at_incoming(own: Reading, paths: list[Path], again: list[tuple[int, int
     try:
         with copy_of_next(own) as (office, there):
             added = hand_in.look_at(office, there, [*map(str, paths)], "nobody yet", words, forms)
-            places = added.places()
-            looked = [tried for tried in added.looked if tried.place in places]
-            rows = [(part.name, first_rows(there.folder / part.file)) for part in added.parts]
-            told = [line.replace(f"{paths[0].parent}/", "") for line in added.again]
-            return Look([], None, told, added.parts, rows, looked, added.next_day.notes, added.next_day.date)
+            looked = [tried for tried in added.looked if tried.place in added.places()]
+            return Look([], None, added, looked, [(i.name, first_rows(there.folder / i.file)) for i in added.parts])
     except hand_in.HadFault as fault:
         # (how it may come once more is told by a button)
-        text = str(fault).partition("; --again")[0]
         place = [*map(str, paths)].index(str(fault.path))
-        return Look([text.replace(f"{paths[0].parent}/", "")], (place, fault.at))
+        return Look([str(fault).partition("; --again")[0]], (place, fault.at))
     except (FileFault, WordsFault) as fault:
-        said = str(fault).replace(f"{paths[0].parent}/", "")
-        return Look(CELL_TYPED.sub(lambda found: label(found[1]), said).split("\n"))
+        return Look(CELL_TYPED.sub(lambda found: label(found[1]), str(fault)).split("\n"))
 
 
 def look_at_change(own: Reading, asked: list[str]) -> change.Difference:
@@ -94,6 +83,29 @@ def look_at_change(own: Reading, asked: list[str]) -> change.Difference:
         composing.last_day(office)
         made = change.edits_of(said, own.text_of_next().head.lags)
         return change.look_at(there, next_day, office, made, "nobody yet", "no reason yet")
+
+
+def look_at_undo(own: Reading, last: Event, date: datetime.date) -> tuple[Rows, Rows]:
+    """What would be handed in again, and what would wait again, if the last day was taken back for this day or a later
+    one."""
+    with tempfile.TemporaryDirectory(dir=own.private) as place:
+        there, _ = undo.put_again(own.office(), last, date, Path(place), last.line)
+        rows: Rows = [(i.place, item_in_words(i), i.part.name, i.part.who) for i in there.items(*handed.KINDS)]
+        path = Path(place) / handed.WAITS
+        waits = read_waits(str(path)) if path.exists() else []
+        return rows, [(str(w.due or ""), w.record, instruction_in_words(w.instruction)) for w in waits]
+
+
+def look_at_names(own: Reading, asked: list[str]) -> tuple[Rows, list[str]]:
+    """What names would be new, each with what it was, and what may be a slip. Raises WordsFault or FileFault as the
+    command does."""
+    parser = TellingWords()
+    labelling.add_words(parser)
+    said, before = parser.parse_args(asked), own.names()
+    labelling.must_fit(said)
+    new = labelling.new_of([*labelling.asked_of(said)], before)
+    rows: Rows = [(f"{name.kind} {name.number}", before.name_of(*name[:2]), name.name) for name in new]
+    return rows, [*labelling.doubts_of(own.office(), new, before)]
 
 
 def first_rows(path: Path, most: int = 5) -> list[str]:

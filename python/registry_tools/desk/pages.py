@@ -1,42 +1,47 @@
 """The pages of the day's work: today, what is handed in, the next day, a change by hand, closing, and the days."""
-from typing import Any, Callable, Iterator, Sequence
+from collections import Counter
+from typing import Any, Callable, Iterator, Mapping, Sequence
 
 import flask
 from werkzeug.exceptions import NotFound
 
 from registry_tools.calendars.dates import date_of
-from registry_tools.calendars.due_days import NOT_DUE
-from registry_tools.desk import forms, gate, tables
+from registry_tools.desk import forms, gate, looks, shown
+from registry_tools.desk.gate import Served
 from registry_tools.desk.reading import Reading
-from registry_tools.desk.served import Served
-from registry_tools.desk.shown import asked, number_asked, outcome, row_of_taken, show_page, whys
-from registry_tools.desk.words import BESIDE, item_in_words, local, side_by_side
+from registry_tools.desk.shown import asked, number_asked, row_of_taken, show_page, sorted_table
+from registry_tools.desk.words import local
 from registry_tools.errors import FileFault, WordsFault
 from registry_tools.notes import LOOK
-from registry_tools.office import approvals, awaited, close as closing, handed, release, taken
-from registry_tools.office.changes import listing
+from registry_tools.office import approvals, awaited, handed, release as releasing, taken, undo as undoing
 from registry_tools.office.settling import BY_RUN, settler_in_words
-from registry_tools.office.trial import Looked
+from registry_tools.office.trial import Looked, whys
 from registry_tools.office.waits import waits_of
-from registry_tools.pages import html, summary
-from registry_tools.pages.html import Markup, link, tag
+from registry_tools.pages import summary
+from registry_tools.pages.beside import item_in_words
+from registry_tools.pages.html import Markup, link, paragraph, tag
 from registry_tools.pages.plan import plan_parts
-from registry_tools.pages.settled import Settled, by_hand_parts, long_date, record_in_words
+from registry_tools.pages.settled import (
+    OUTCOMES, WAITS, Settled, by_hand_parts, kind_of, long_date, outcome_in_words, record_in_words,
+)  # fmt: skip
 from registry_tools.questions import due
 from registry_tools.second import faults, rules
-from registry_tools.sheets import columns as sheets
 from registry_tools.sheets import form
-from registry_tools.tables import RIGHTS
+from registry_tools.texts.books import Sums, sums_of, sums_told
 from registry_tools.texts.in_words import grouped, instruction_in_words
-from registry_tools.texts.report import LogRow
 
 TAKEN = ["Place", "What", "Who took it back", "At", "Why"]
-NAMES_OF_SUMS = ("held", "surrendered", "deleted")
+HANDED_IN = ["Place", "What", "File or reason", "Who"]
+WAITING = ["Due", "Record", "Instruction"]
 # What there are empty tables of; and how the last day of a year may be written in a spreadsheet.
 EMPTY = [own for own in form.WHAT if own != form.LABELS]
-DATES = ("31.12.2026", "31/12/2026", "12/31/2026")
-# Of more accounts none is offered in a list; and so many dates are told that come next.
-MOST_OFFERED, MOST_COMING = 1_000, 5
+DATES = ["", "31.12.2026", "31/12/2026", "12/31/2026"]
+# So many dates are told that come next.
+MOST_COMING = 5
+RELEASED = (
+    "Released says that others know of a day: letters were sent, or somebody was told what it has. From then on it is "
+    "not undone any more, and that is not taken back: what is wrong in it, an instruction of a later day corrects."
+)
 
 
 def today(served: Served) -> Any:
@@ -72,44 +77,42 @@ def new_of(own: Reading) -> list[Looked]:
 
 def hand_in(served: Served) -> Any:
     """The page with the forms for instructions and files."""
-    act = asked("act")
-    columns = sheets.columns_of_act(act) if act in faults.ACT_WORDS else []
+    act, own = asked("act") if asked("act") in faults.ACT_WORDS else "", served.reading
     return show_page(
-        "hand_in", "Hand in", act=act if columns else "", columns=columns, said=flask.request.args, empty=EMPTY,
-        known=forms.accounts_offered(served.reading, MOST_OFFERED) if columns else [], dates=DATES,
-        proposed=forms.dates_of_proposal(served.reading) if columns else [], choices=forms.CHOICES,
+        "hand_in", "Hand in", act=act, fields=forms.instruction_fields(own, act) if act else [], empty=EMPTY,
+        known=forms.accounts_offered(own) if act else [], dates=DATES, later=forms.LATER,
     )  # fmt: skip
 
 
 def next_day(served: Served) -> Any:
     """The page of the next day as it stands."""
     own, looked, otherwise = served.reading.tried(asked("date") or None)
-    only = asked("only")
     kinds: dict[str, Callable[[Looked], bool]] = {
-        "refused": lambda tried: tried.is_refused, "waiting": lambda tried: tried.waits,
+        "": lambda tried: True, "refused": lambda tried: tried.is_refused, "waiting": lambda tried: tried.waits,
         "new": lambda tried: tried.is_new,
     }  # fmt: skip
-    shown = [tried for tried in looked if only not in kinds or kinds[only](tried)]
+    only = asked("only") if asked("only") in kinds else ""
+    rows = [(tried.place or 0, tried.words, tried.said(), tried) for tried in looked if kinds[only](tried)]
     handed_in = served.reading.office().handed_in()
     items, gone = handed_in.items(handed.CHANGES, handed.EDITS, handed.WORK), taken.of_next(handed_in)
-    others = [(item.place, item_in_words(item), item.part.name, item.part.who) for item in items]
     counts = {name: sum(map(is_so, looked)) for name, is_so in kinds.items()}
-    rows = [(tried.place or 0, tried.words, tried.said(), tried) for tried in shown]
+
+    def cells(row: Sequence[Any]) -> Sequence[Any]:
+        place, said, _, tried = row
+        return box(served, place) if place else "waited", said, shown.outcome(tried), "new" if tried.is_new else ""
+
     return show_page(
-        "next", "The next day", date=own.date, rows=rows, shown_row=row_of_looked(served), only=only, counts=counts,
-        all=len(looked), whys=whys(shown), notes=[*own.notes, *otherwise], others=others,
+        "next", "The next day", date=own.date, rows=rows, shown_row=cells, only=only, counts=counts,
+        views=views_of("/next?only={}", counts), whys=whys([row[3] for row in rows]),
+        notes=[*own.notes, *otherwise],
+        others=[(item.place, item_in_words(item), item.part.name, item.part.who) for item in items], columns=HANDED_IN,
         shown_other=lambda row: (box(served, row[0]), *row[1:]), taken=[*map(row_of_taken, gone)],
     )  # fmt: skip
 
 
-def row_of_looked(served: Served) -> Callable[[Sequence[Any]], Sequence[Any]]:
-    """An instruction of the next day as cells; with a box, if it can be taken back."""
-
-    def cells(row: Sequence[Any]) -> Sequence[Any]:
-        place, said, _, tried = row
-        return box(served, place) if place else "waited", said, outcome(tried), "new" if tried.is_new else ""
-
-    return cells
+def views_of(path: str, counts: Mapping[str, int]) -> list[tuple[str, str, str]]:
+    """The links to what of its rows a page shows: all of them, which are called so, or those of a kind."""
+    return [(name, path.format(name), f"{name or 'all'} ({count:,})") for name, count in counts.items()]
 
 
 def box(served: Served, place: int) -> object:
@@ -122,21 +125,19 @@ def box(served: Served, place: int) -> object:
 
 
 def change(served: Served) -> Any:
-    """The form of an account, of the rules, or of a new account."""
+    """The form of an account, of the rules, or of a new account. Raises WordsFault if there is no such account."""
     number, own = number_asked("account"), served.reading
-    of = asked("of")
+    of = asked("of") if asked("of") in ("rules", "new") and number is None else "account"
     if own.event() is None:
         raise WordsFault("no day is settled yet: another first text stands in place of a change")
     day = own.text_of_next()
     if number is not None and number not in day.book:
         raise WordsFault(f"there is no account {number} in the next day's text")
-    more: dict[str, Any] = forms.rule_fields(day) if of == "rules" else {}
+    fields = forms.rule_fields(day) if of == "rules" else forms.new_fields()
     if number is not None:
-        of, more = "account", forms.account_fields(day.book[number], len(day.head.periods))
-    return show_page(
-        "change", "Change", account=number, of=of, date=day.head.date, **more,
-        known=forms.accounts_offered(own, MOST_OFFERED), kinds=faults.ACCOUNT_KINDS, rights=RIGHTS,
-    )  # fmt: skip
+        fields = forms.account_fields(day.book[number], len(day.head.periods))
+    known = forms.accounts_offered(own) if of == "account" and number is None else []
+    return show_page("change", "Change", account=number, of=of, date=day.head.date, fields=fields, known=known)
 
 
 def close(served: Served) -> Any:
@@ -153,96 +154,125 @@ def close(served: Served) -> Any:
         "close", "Close", date=date, dates=dates, why=why, own=outcome_of,
         notes=[note for note in notes if not note.startswith(LOOK)],
         alerts=[note.removeprefix(f"{LOOK}: ") for note in notes if note.startswith(LOOK)], unsaid=asked("unsaid"),
-        totals=[*totals_of(outcome_of)] if outcome_of else [], settler=settler, asks_second=settler in ("", BY_RUN),
+        totals=totals_of(outcome_of.before, outcome_of.after) if outcome_of else "", settler=settler,
+        asks_second=settler in ("", BY_RUN),
     )  # fmt: skip
 
 
-def totals_of(own: closing.Outcome) -> Iterator[tuple[str, str, str, str, str]]:
-    """The sums over all accounts before and after."""
-    for kind in rules.KINDS:
-        for name in NAMES_OF_SUMS:
-            before, after = (getattr(sums[kind], name) for sums in (own.before, own.after))
-            yield kind, name, grouped(before), grouped(after), f"{after - before:+,}" if after != before else ""
+def totals_of(before: Mapping[str, Sums], after: Mapping[str, Sums]) -> Markup:
+    """The sums over all accounts before and after something is done."""
+    pairs = [
+        (kind, name, getattr(before[kind], name), getattr(after[kind], name))
+        for kind in rules.KINDS for name in ("held", "surrendered", "deleted")
+    ]  # fmt: skip
+    rows = [(*of, grouped(old), grouped(new), f"{new - old:+,}" if new != old else "") for *of, old, new in pairs]
+    columns = ["Kind", "What", "Before", "After", "Difference"]
+    return sorted_table("Totals", columns, rows, columns[2:], name="totals-")
+
+
+# Days.
+
+
+def day_rows(served: Served) -> list[tuple[Any, ...]]:
+    """All settled days, the last one first: who settled each when, how many records it has, by what, and whether it is
+    released."""
+    told = releasing.days_told(served.reading.office())
+    return [(str(own.date), own.who, local(own.at), own.next - own.first, *more) for own, *more in told]
 
 
 def days(served: Served) -> Any:
     """The page of all settled days."""
-    office = served.reading.office()
-    told = release.days_told(office)
-    rows = [(str(own.date), own.who, local(own.at), own.next - own.first, *more) for own, *more in told]
-    last = office.last()
+    office, rows = served.reading.office(), day_rows(served)
+    return show_page("days", "Days", rows=rows, last=office.last(), is_released=office.journal.is_released(),
+                     columns=DAYS, shown_row=lambda row: (link(f"/days/{row[0]}", row[0]), *row[1:]))  # fmt: skip
+
+
+DAYS = ["Day", "Who", "At", "Records", "Settled by", "Released"]
+
+
+def undo(served: Served) -> Any:
+    """The page that asks whether the last day is taken back: what goes, and what is handed in and waits again. Raises
+    WordsFault if it can't be."""
+    own = served.reading
+    office, event = own.office(), own.event()
+    last = undoing.last_of(office, str(event.date) if event else None)
+    date, settled = undoing.date_again(asked("date") or None, office, last), own.settled(last.date)
+    assert settled is not None  # (it is the last day)
+    again, waits = own.of_next("undo", date, lambda: looks.look_at_undo(own, last, date))
+    before = [event.date for event in office.journal.filed()[:-1]][-1:]
+    earlier = [own for own in settled.head.working_days if before and before[0] < own < last.date]
+    count, said = Counter(map(kind_of, settled.log)), long_date(last.date)
+    told = ", ".join(f"{count[kind]} {kind}" for kind in OUTCOMES)
+    records = f"its records {last.first} to {last.next - 1} ({told})" if settled.log else "no record, since it has none"
     return show_page(
-        "days", "Days", rows=rows, last=last, is_released=office.journal.is_released(),
-        doubt=release.doubt_of(last) if last else "",
-        shown_row=lambda row: (link(f"/days/{row[0]}", row[0]), *row[1:]),
+        "yes", f"Undo {said}", lead=f"{said} is not undone yet. If it is, the day goes with its report, and with it "
+        f"{records}. What it was made of is handed in again for {long_date(date)}, and can be closed once more.",
+        told=[sorted_table("Handed in then", HANDED_IN, again, ["Place"], empty="Nothing is handed in then."),
+              sorted_table("Waiting then", WAITING, waits, ["Record"], name="waits-", empty="Nothing waits then."),
+              totals_of(sums_told(settled.report), sums_of(settled.day.book_rows))],
+        action="/undo/yes", button=f"Yes, undo {said}", no="/days", choices=[last.date, *reversed(earlier)],
+        fields=[("day", last.date), *([("date", date)] if date != last.date else [])], chosen=("date", date),
+        words="For which day it is handed in again: an earlier one, if it was closed for a date that is too late",
+    )  # fmt: skip
+
+
+def release(served: Served) -> Any:
+    """The page that asks whether a day is released: which days it touches, and what that means. Raises WordsFault if it
+    is released already, or is no settled day."""
+    office, rows = served.reading.office(), [row for row in day_rows(served) if row[-1] == "no"]
+    last, doubt = office.last(), ""
+    day = releasing.day_to_release(office, asked("day") or (str(last.date) if last else None))
+    touched, said = [row for row in rows if row[0] <= str(day.date)], long_date(day.date)
+    doubt = releasing.doubt_of(day)
+    return show_page(
+        "yes", f"Release {said}", lead=f"{said} is not released yet. If it is, so are all days before it.",
+        told=[paragraph(RELEASED), sorted_table("Released then", DAYS[:5], [row[:5] for row in touched], ["Records"])],
+        action="/release/yes", button=f"Yes, release {said}", no="/days", doubt=doubt and f"it {doubt}",
+        fields=[("day", day.date)], choices=[row[0] for row in rows], chosen=("day", day.date),
+        words="Up to which day",
     )  # fmt: skip
 
 
 def day(served: Served, word: str) -> Any:
-    """The page of a day: what the pages of ./day page say, with its log as one table."""
-    date = date_of("the day", word)
-    settled = served.reading.settled(date)
+    """The page of a day: what the pages of ./day page say, with its log as one table. NotFound if it is not settled."""
+    date, own = date_of("the day", word), served.reading
+    settled = own.settled(date)
     if settled is None:
         raise NotFound
-    only = asked("only")
-    log = [own for own in settled.log if only not in ("done", "refused") or only == kind_of(own)]
-    rows = [(own.record, record_in_words(own), rules.named(own.instruction), settled.outcome(own), own) for own in log]
+    only = asked("only") if asked("only") in OUTCOMES else ""
+    log = [row for row in settled.log if only in ("", kind_of(row))]
+    rows = [(row.record, record_in_words(row), rules.named(row.instruction), outcome_in_words(row), row) for row in log]
+    count, accounts_of = Counter(kind for row in settled.log for kind in ("", kind_of(row))), settled.accounts_of
+
+    def cells(row: Sequence[Any]) -> Sequence[Any]:
+        return *row[:2], accounts_of(row[4]), own.waits_until(date, row[0]) if row[3] == WAITS else row[3]
+
+    counts = {kind: count[kind] for kind in ("", *OUTCOMES)}
     return show_page(
-        "day", long_date(date), date=date, above=parts_of(settled, served.reading), rows=rows, only=only,
-        shown_row=lambda row: (row[0], row[1], settled.accounts_of(row[4]), row[3]),
-        plan=plan_parts(settled) if settled.log else [],
+        "day", long_date(date), above=[*parts_of(settled, own)], rows=rows, only=only, counts=counts, shown_row=cells,
+        views=views_of(f"/days/{date}?only={{}}#log", counts), plan=plan_parts(settled) if settled.log else [],
     )  # fmt: skip
 
 
-def kind_of(logged: LogRow) -> str:
-    """Whether an instruction was done or refused, or only waits for its due day."""
-    return "done" if logged.is_done else "waiting" if logged.name == NOT_DUE else "refused"
-
-
-def parts_of(settled: Settled, own: Reading) -> list[Markup]:
+def parts_of(settled: Settled, own: Reading) -> Iterator[Markup]:
     """What stands above the log."""
     refused = [
         (settled.rulebook.check_link(code), len(logged), settled.rulebook.words(settled.rulebook.checks[code].advice))
         for code, logged in settled.refused().items()
-        if logged[0].name != NOT_DUE
     ]
-    waiting = summary.waiting_rows(settled) if settled.waiting else []
-    parts, count = [summary.lead(settled)], sum(kind_of(logged) == "waiting" for logged in settled.log)
-    if count:
-        parts.append(html.paragraph(f"{grouped(count)} of those that count as refused only wait for their due day."))
+    yield summary.lead(settled)
     if settled.log:
-        parts.append(summary.acts_table(settled))
+        yield summary.acts_table(settled)
     if refused:
-        columns = ["Check", "How many", "What to do"]
-        parts.append(tables.sorted_table("Refused", columns, refused, ["How many"], name="why-"))
-    if waiting:
-        parts.append(tables.sorted_table("Waiting", summary.WAITING_COLUMNS, waiting, name="waits-"))
+        yield sorted_table("Refused", ["Check", "How many", "What to do"], refused, ["How many"], name="why-")
+    if settled.waiting:
+        yield sorted_table("Waiting", summary.WAITING_COLUMNS, summary.waiting_rows(settled), name="waits-")
     gone = [*map(row_of_taken, taken.of_day(own.office(), settled.head.date))]
     if gone:
-        parts.append(tables.sorted_table("Taken back before", TAKEN, gone, ["Place"], name="taken-"))
-    return [*parts, *summary.totals_parts(settled), tag("h2", "Changed by hand"), *by_hand_told(settled, own)]
-
-
-def by_hand_told(settled: Settled, own: Reading) -> list[Markup]:
-    """What people changed before a day, by field, and who did so."""
+        yield sorted_table("Taken back before", TAKEN, gone, ["Place"], name="taken-")
+    yield from (*summary.totals_parts(settled), tag("h2", "Changed by hand"))
     by_hand = own.by_hand(settled.head.date)
-    if by_hand.rows is None:
-        return [html.paragraph("This is the first day.")]
-    if not by_hand.rows:
-        return by_hand_parts(settled, by_hand)
-    lines = [f"{row.account}: {row.words}" if row.account else row.words for row in by_hand.rows]
-    items = listing.items_of_day(own.office().day_folder(settled.head.date))
-    who = [(local(item.part.at), item.part.who, item.part.name, item_in_words(item)) for item in items]
-    return [
-        tables.sorted_table("Before and after", BESIDE, side_by_side(lines), show=with_link, name="rows-"),
-        tables.sorted_table("Who changed it, and why", ["At", "Who", "Why", "Change"], who, name="who-"),
-    ]
-
-
-def with_link(row: Sequence[Any]) -> Sequence[Any]:
-    """A row of what an account was and is, with a link to the account."""
-    number = row[0].removeprefix("account ")
-    return (link(f"/accounts/{number}", row[0]) if number.isdigit() else row[0], *row[1:])
+    yield from [paragraph("This is the first day.")] if by_hand.rows is None else by_hand_parts(settled, by_hand)
 
 
 def name(served: Served) -> Any:

@@ -5,24 +5,26 @@ from typing import Any
 
 import flask
 
-from registry_tools.desk import forms, gate, looks, tables
-from registry_tools.desk.jobs import Job
-from registry_tools.desk.served import Served
-from registry_tools.desk.shown import outcome, show_page, whys
-from registry_tools.desk.words import count_in_words, side_by_side
+from registry_tools.desk import forms, gate, looks
+from registry_tools.desk.gate import Served
+from registry_tools.desk.shown import address_of, outcome, show_page, sorted_table
 from registry_tools.errors import WordsFault
+from registry_tools.office import handed
 from registry_tools.office.people import MAY_WAIT
+from registry_tools.office.trial import whys
 from registry_tools.office.words import one_line
 from registry_tools.options import word_of
+from registry_tools.pages.beside import BESIDE, side_by_side
 
-NUMBER, STATE = re.compile("[0-9a-f]{16}"), re.compile("[0-9a-f]{64}[.][0-9]{1,9}[.][0-9]{1,9}[.][0-9a-f]{16}")
+ONCE, STATE = re.compile("[0-9a-f]{16}"), re.compile("[0-9a-f]{64}[.][0-9]{1,9}[.][0-9]{1,9}[.][0-9a-f]{16}")
 PLACE, AGAIN = re.compile("[1-9][0-9]{0,8}"), re.compile("([0-9]{1,3}):([1-9][0-9]{0,8})")
 NOT_WHOLE = "the form is not whole: nothing was done"
 # Of a field that was typed so much is kept in the way back to it.
 LONGEST_FIELD = 200
-# The words of a form that its page makes; and those that are no fields of what it asks for.
-OF_PAGE = {"token", "number", "state"}
+# The words of a form that its page makes; those that are no fields of what it asks for; and forms of no own page.
+OF_PAGE = {"token", "once", "state"}
 OF_FORM = OF_PAGE | {"who", "why"}
+OF_TODAY = {"/approve", "/put-right"}
 
 
 def form(name: str) -> str:
@@ -30,39 +32,39 @@ def form(name: str) -> str:
     return flask.request.form.get(name, "").strip()
 
 
-def number() -> str:
-    """The number of the form, by which it is known if it is sent again."""
-    if not NUMBER.fullmatch(form("number")):
+def once() -> str:
+    """The number of the form, by which it is known if it is sent again. Raises WordsFault if it has none."""
+    if not ONCE.fullmatch(form("once")):
         raise WordsFault(NOT_WHOLE)
-    return form("number")
+    return form("once")
 
 
-def why() -> str:
-    """The reason of the form, as a word of a command. Raises WordsFault if it is none."""
-    return f"--why={one_line('why', form('why'))}"
-
-
-def to_answer(job: Job) -> Any:
-    """Leads to the page of a job."""
-    return flask.redirect(f"/jobs/{job.number}", 303)
+def way_back() -> str:
+    """The address of the form that was sent, with what was typed."""
+    path = "/" if flask.request.path in OF_TODAY else "/" + flask.request.path.split("/")[1]
+    typed = {name: own for name, own in flask.request.form.to_dict(flat=False).items() if name not in OF_PAGE}
+    return address_of(path, {name: [word[:LONGEST_FIELD] for word in words] for name, words in typed.items()})
 
 
 def do(served: Served, command: str, *more: str, upload: str = "", makes: bool = False) -> Any:
-    """Has a command do it, for somebody who saw the folder in the state of the form; and goes to its answer."""
-    who, own, state = gate.name(served), number(), form("state")
+    """Has a command do it, for somebody who saw the folder in the state of the form; and goes to its answer. Raises
+    WordsFault if the form has no state."""
+    who, state = gate.name(served), form("state")
     if not STATE.fullmatch(state):
         raise WordsFault(NOT_WHOLE)
-    if own not in served.jobs.jobs and state != flask.g.state:
-        # (the command would refuse it too: here it is said what is new)
-        since = "; ".join(served.reading.since(state)) or "another first text stands there"
-        raise WordsFault(f"somebody changed the folder after your page was made, and nothing was done: {since}")
     words = [f"--who={who}", f"--seen={state}", *gate.speaks_for(served, who), *more]
-    return to_answer(served.jobs.start(own, command, words, state, upload, makes))
+    return begin(served, command, *words, seen=state, upload=upload, makes=makes)
 
 
-def begin(served: Served, command: str, *more: str, makes: bool = False) -> Any:
-    """Has a command work that changes nothing."""
-    return to_answer(served.jobs.start(number(), command, [*more], makes=makes))
+def do_with_why(served: Served, command: str, *more: str, upload: str = "") -> Any:
+    """The same, with the reason that the form gives. Raises WordsFault if it gives none."""
+    return do(served, command, f"--why={one_line('why', form('why'))}", *more, upload=upload)
+
+
+def begin(served: Served, command: str, *words: str, seen: str = "", upload: str = "", makes: bool = False) -> Any:
+    """Has a command work, and goes to its answer."""
+    job = served.jobs.start(once(), command, [*words], seen, way_back(), upload, makes)
+    return flask.redirect(f"/jobs/{job.number}", 303)
 
 
 def name(served: Served) -> Any:
@@ -75,19 +77,41 @@ def name(served: Served) -> Any:
 # Handing in.
 
 
-def look(served: Served) -> Any:
-    """What would come of files, or of one instruction. They wait in the private folder for a yes."""
-    if form("place"):
-        return look_at_upload(served, form("place"))
-    place, typed = served.jobs.new_upload(), {}
-    if form("act"):
-        table = forms.table_of_instruction(flask.request.form)
-        served.jobs.place_for(place, looks.TYPED).write_bytes(forms.rows_of_typed(table))
-        typed = {name: form(name)[:LONGEST_FIELD] for name in flask.request.form if name not in OF_FORM}
+def uploaded(served: Served) -> str:
+    """The name of a new upload in the private folder, with the files of the form: they wait there for a yes."""
+    place = served.jobs.new_upload()
     for upload in flask.request.files.getlist("files"):
         if upload.filename:
             upload.save(served.jobs.place_for(place, upload.filename))
-    return look_at_upload(served, place.name, typed)
+    return place.name
+
+
+def look(served: Served) -> Any:
+    """Shows what would come of files, or of one instruction, with a way back to the form that has what was typed.
+    Raises WordsFault if there is none."""
+    place, typed = form("place") or uploaded(served), {}
+    if form("act"):
+        table = forms.table_of_instruction(flask.request.form)
+        path = served.jobs.place_for(served.jobs.private / place, looks.TYPED)
+        path.write_bytes(forms.rows_of_typed(table))
+        typed = {name: form(name)[:LONGEST_FIELD] for name in flask.request.form if name not in OF_FORM}
+    paths, reading, dates = served.jobs.upload(place), served.reading, form("dates")
+    if not paths:
+        raise WordsFault("no file was chosen")
+    again = meant_again(len(paths))
+    own = reading.whole(lambda: looks.look_at_incoming(reading, paths, again, dates))
+    if own.faults and not own.meant:
+        served.jobs.forget_upload(place)
+    if own.meant:
+        again.append(own.meant)
+    return show_page(
+        "look", "A look before it is handed in", own=own, place=place, dates=dates, whys=whys(own.looked),
+        again=[("again", f"{file}:{line}") for file, line in again], back=address_of("/hand-in", {**typed}),
+        counts=[(i.name, f"{handed.NAMES[i.kind]} {i.count}") for i in own.added.parts] if own.added else [],
+        names=[path.name for path in paths],
+        rows=[(tried.place, tried.words, tried.said(), tried) for tried in own.looked],
+        shown_row=lambda row: (row[0], row[1], outcome(row[3])),
+    )  # fmt: skip
 
 
 def meant_again(count: int) -> list[tuple[int, int]]:
@@ -99,31 +123,10 @@ def meant_again(count: int) -> list[tuple[int, int]]:
     return pairs
 
 
-def look_at_upload(served: Served, place: str, typed: dict[str, Any] | None = None) -> Any:
-    """Shows what would be handed in by the files of an upload, with a way back to the form that has what was typed.
-    Raises WordsFault if it has none."""
-    paths = served.jobs.upload(place)
-    if not paths:
-        raise WordsFault("no file was chosen")
-    again, reading, dates = meant_again(len(paths)), served.reading, form("dates")
-    own = reading.whole(lambda: looks.look_at_incoming(reading, paths, again, dates))
-    if own.faults and not own.meant:
-        served.jobs.forget_upload(place)
-    if own.meant:
-        again.append(own.meant)
-    return show_page(
-        "look", "A look before it is handed in", own=own, place=place, again=again, dates=dates, whys=whys(own.looked),
-        counts=[(part.name, count_in_words(part)) for part in own.parts], names=[path.name for path in paths],
-        back=tables.address_of("/hand-in", typed or {}),
-        rows=[(tried.place, tried.words, tried.said(), tried) for tried in own.looked],
-        shown_row=lambda row: (row[0], row[1], outcome(row[3])),
-    )  # fmt: skip
-
-
 def take(served: Served) -> Any:
     """Has the files of an upload handed in."""
     place = form("place")
-    if number() in served.jobs.jobs:
+    if once() in served.jobs.jobs:
         return do(served, "hand-in")
     files = [word_of(path.name) for path in served.jobs.upload(place)]
     more = [f"--again={files[own]}:{line}" for own, line in meant_again(len(files))]
@@ -136,28 +139,60 @@ def take_back(served: Served) -> Any:
     places = flask.request.form.getlist("places")
     if not places or not all(map(PLACE.fullmatch, places)):
         raise WordsFault("no row was chosen")
-    return do(served, "take-back", why(), "--", *places)
+    return do_with_why(served, "take-back", "--", *places)
 
 
-# Changes by hand.
+# Changes by hand, and names.
 
 
 def look_at_change(served: Served) -> Any:
     """Shows what a change by hand would change."""
-    words = forms.words_of_change(flask.request.form, served.reading)
-    difference = served.reading.whole(lambda: looks.look_at_change(served.reading, words))
-    fields = [(key, value) for key, value in flask.request.form.items() if key not in OF_FORM]
+    words = [*forms.words_of_change(flask.request.form, served.reading)]
+    own = served.reading.whole(lambda: looks.look_at_change(served.reading, words))
     return show_page(
-        "look_at_change", "A look before it is changed", rows=side_by_side(difference.rows()), notes=difference.notes,
-        fields=fields, date=difference.after.head.date,
+        "yes", "A look before it is changed", fields=fields_of_form(), notes=own.notes,
+        lead=f"Nothing is changed yet. For {own.after.head.date} this would be:", action="/change/make",
+        told=[sorted_table("Before and after", BESIDE, side_by_side(own.rows()))], no="/change",
+        button="Yes, change it",
     )  # fmt: skip
+
+
+def fields_of_form() -> list[tuple[str, str]]:
+    """What the form says of what it asks for."""
+    return [(key, value) for key, value in flask.request.form.items() if key not in OF_FORM]
 
 
 def make_change(served: Served) -> Any:
     """Has a change by hand made."""
-    if number() in served.jobs.jobs:
-        return do(served, "change")
-    return do(served, "change", why(), "--yes", *forms.words_of_change(flask.request.form, served.reading))
+    is_again = once() in served.jobs.jobs
+    words = [] if is_again else forms.words_of_change(flask.request.form, served.reading)
+    return do_with_why(served, "change", "--yes", *words)
+
+
+def look_at_names(served: Served) -> Any:
+    """Shows what would be named how, by the form or by a file."""
+    place = uploaded(served) if any(own.filename for own in flask.request.files.getlist("files")) else ""
+    rows, doubts = looks.look_at_names(served.reading, words_of_names(served, place))
+    return show_page(
+        "yes", "A look before it is named", lead="Nothing is named yet. This would be:", notes=doubts,
+        told=[sorted_table("Before and after", BESIDE, rows)], action="/names/give", button="Yes, name it so",
+        fields=[("place", place)] if place else fields_of_form(), no="/names",
+    )  # fmt: skip
+
+
+def words_of_names(served: Served, place: str) -> list[str]:
+    """The words of ./day label that a form says: a name, or the file of an upload."""
+    if place:
+        return [f"--file={served.jobs.upload(place)[0]}"]
+    named = [form("kind"), form("number"), *([form("name")] if form("name") else [])]
+    return [*(["--remove"] if len(named) == 2 else []), "--", *named]
+
+
+def give_names(served: Served) -> Any:
+    """Has the names given that were looked at."""
+    place = form("place")
+    words = [] if once() in served.jobs.jobs else words_of_names(served, place)
+    return do_with_why(served, "label", *words)
 
 
 # Days.
@@ -166,19 +201,19 @@ def make_change(served: Served) -> Any:
 def settle(served: Served) -> Any:
     """Has the next day settled and filed. What is to be looked at first wants a yes of its own."""
     if form("doubts") and not form("yes"):
-        return flask.redirect(tables.address_of("/close", {"date": form("date"), "unsaid": 1}), 303)
+        return flask.redirect(address_of("/close", {"date": form("date"), "unsaid": 1}), 303)
     words = [f"--{name}" for name in ("second", "yes") if form(name)]
     return do(served, "close", f"--date={form('date')}", *words)
 
 
 def undo(served: Served) -> Any:
     """Has the last day taken back."""
-    return do(served, "undo", why(), *([f"--date={form('date')}"] if form("date") else []), "--", form("day"))
+    return do_with_why(served, "undo", *([f"--date={form('date')}"] if form("date") else []), "--", form("day"))
 
 
 def release(served: Served) -> Any:
     """Has a day released."""
-    return do(served, "release", why(), *(["--yes"] if form("yes") else []), "--", form("day"))
+    return do_with_why(served, "release", *(["--yes"] if form("yes") else []), "--", form("day"))
 
 
 def approve(served: Served) -> Any:
@@ -203,14 +238,14 @@ def audit(served: Served) -> Any:
 
 
 def send(served: Served) -> Any:
-    """Has packages made, for one download."""
+    """Has packages made, for one download. Raises WordsFault if the words of the form are none of the command."""
     holders = form("holders").split()
     if not all(map(PLACE.fullmatch, holders)):
         raise WordsFault("holders: numbers with blanks between them")
     own = [*(f"--{name}={form(name)}" for name in ("from", "day") if form(name))]
     own += ["--holder", *holders] if holders else []
-    if form("release"):
-        if served.is_look:
-            raise WordsFault("this desk releases no day")
-        return do(served, "send", "--release", *own, makes=True)
-    return begin(served, "send", *own, makes=True)
+    if not form("release"):
+        return begin(served, "send", *own, makes=True)
+    if served.is_look:
+        raise WordsFault("this desk releases no day")
+    return do(served, "send", "--release", *own, makes=True)

@@ -1,10 +1,10 @@
-"""The pages that answer questions: accounts, compliance, what was done over all days, the journal, audits, packages,
-and what commands answered."""
+"""The pages that answer questions: accounts and names, compliance, what was done over all days, the journal, audits,
+packages, and what commands answered."""
 import io
 import tempfile
 import zipfile
 from pathlib import Path
-from typing import Any, Sequence
+from typing import Any, Iterator, Sequence
 
 import flask
 from werkzeug.exceptions import NotFound
@@ -12,21 +12,20 @@ from werkzeug.wrappers import Response
 
 from registry_tools.calendars.dates import date_of
 from registry_tools.calendars.due_days import NOT_DUE
-from registry_tools.desk.served import Served
-from registry_tools.desk.shown import TYPED, asked, number_asked, row_of_taken, show_page
-from registry_tools.desk.waiting import WAITS, with_due_day
-from registry_tools.desk.words import item_in_words, local, words_of_row
-from registry_tools.errors import FOUND, WordsFault
+from registry_tools.desk.gate import Served
+from registry_tools.desk.shown import TYPED, asked, number_asked, row_of_taken, show_page, with_due_day
+from registry_tools.desk.words import PAGES, local
+from registry_tools.errors import WordsFault
 from registry_tools.notes import BY_HAND
 from registry_tools.office import taken
-from registry_tools.office.approvals import ASKED_FOR
 from registry_tools.office.changes import listing
-from registry_tools.office.labels import ACCOUNT
+from registry_tools.office.labels import ACCOUNT, KINDS
 from registry_tools.pages import compliance as standing
-from registry_tools.pages import html, month
+from registry_tools.pages import month
+from registry_tools.pages.beside import item_in_words, words_of_row
 from registry_tools.pages.html import Markup, link
 from registry_tools.pages.rulebook import document_parts
-from registry_tools.pages.settled import Settled, joined_words, outcome_in_words, record_in_words
+from registry_tools.pages.settled import WAITS, Settled, joined_words, outcome_in_words, record_in_words
 from registry_tools.questions import compliance as answers
 from registry_tools.questions import find as finding
 from registry_tools.second import faults, rules
@@ -37,10 +36,10 @@ from registry_tools.texts.in_words import grouped
 from registry_tools.texts.report import LogRow
 
 WORKBOOK = "application/vnd.openxmlformats-officedocument.spreadsheetml.sheet"
-WHAT = {
-    "hand-in": "Hand in", "take-back": "Take back", "change": "Change", "close": "Close", "undo": "Undo",
-    "release": "Release", "approve": "Approve", "audit": "Audit", "send": "Send", "try": "Look at the next day",
-    "status": "Put right",
+# Where somebody goes on behind a command.
+BEHIND = {
+    "hand-in": ("/next", "To the next day"), "change": ("/next", "To the next day"),
+    "take-back": ("/next", "To the next day"), "label": ("/names", "To the names"),
 }  # fmt: skip
 
 # Accounts.
@@ -53,22 +52,20 @@ def accounts(served: Served) -> Any:
     return show_page("accounts", "Accounts", rows=rows, q=word, settled=settled, shown_row=cells_of_account)
 
 
-def account_rows(settled: Settled, word: str) -> list[tuple[Any, ...]]:
+def account_rows(settled: Settled, word: str) -> Iterator[tuple[Any, ...]]:
     """Number, kind, holder, status, what they hold and the name, of the accounts that have the word as one of them, or
     in the name of the account or of the holder."""
-    rows = (block.rows[0].split(",") for block in settled.report.book.values())
-    found: list[tuple[Any, ...]] = []
-    for row in rows:
+    for block in settled.report.book.values():
+        row = block.rows[0].split(",")
         holder, own = settled.names.holder(row[3]), settled.names.name_of(ACCOUNT, row[1])
         if not word or word in row[1:5] or any(word.casefold() in name.casefold() for name in (holder, own)):
-            found.append((int(row[1]), row[2], holder, row[4], int(row[8]), int(row[9]), own))
-    return found
+            yield int(row[1]), row[2], holder, row[4], int(row[8]), int(row[9]), own
 
 
 def cells_of_account(row: Sequence[Any]) -> Sequence[Any]:
     """The cells of an account, its number with a link."""
     number, kind, holder, status, general, aviation, name = row
-    shown = joined_words(link(f"/accounts/{number}", number), name) if name else link(f"/accounts/{number}", number)
+    shown = joined_words(link(f"/accounts/{number}", number), name)
     return shown, kind, holder, status, grouped(general), grouped(aviation)
 
 
@@ -93,6 +90,12 @@ def row_of_history(row: Sequence[Any]) -> Sequence[Any]:
     return day, record, what, outcome, *("" if own is None else grouped(own) for own in held)
 
 
+def names(served: Served) -> Any:
+    """The page of the names of users, holders and accounts."""
+    rows = [(*own[:3], local(own.at), *own[4:]) for own in served.reading.names().named.values()]
+    return show_page("names", "Names", rows=sorted(rows, key=lambda row: (row[0], int(row[1]))), kinds=KINDS)
+
+
 # Compliance.
 
 
@@ -106,8 +109,7 @@ def compliance(served: Served) -> Any:
     deadline = date_of("the deadline", word) if word else served.reading.office().settings.due.surrender_of(year)
     rows = standings_of(served, settled, year)
     return show_page(
-        "compliance", f"Compliance for {year}", year=year, deadline=word, rows=[*map(row_of_standing, rows)],
-        columns=COLUMNS,
+        "compliance", f"Compliance for {year}", year=year, rows=[*map(row_of_standing, rows)], columns=COLUMNS,
         counts=standing.counts_table(rows) if rows else "", until=month.until_in_words(settled.head.date, deadline),
         missing=sum(own.missing or 0 for own in rows), date=settled.head.date,
         shown_row=lambda row: cells_of_standing(settled, row[-1]),
@@ -126,19 +128,14 @@ COLUMNS = ["Account", "Holder", "Surrendered", "Emissions", "Surrendered of emis
 
 def row_of_standing(own: answers.Standing) -> tuple[Any, ...]:
     """What a row is sorted by."""
-    figure, of = "" if own.figure is None else own.figure, own.account
-    share = own.surrendered - own.emissions
-    return of.number, of.holder, own.surrendered, own.emissions, share, figure, own.verdict, own
+    of, share = own.account, own.surrendered - own.emissions
+    return of.number, of.holder, own.surrendered, own.emissions, share, own.figure or "", own.verdict, own
 
 
 def cells_of_standing(settled: Settled, own: answers.Standing) -> Sequence[Any]:
     """The cells of an operator, its account with a link."""
-    verdict = own.verdict_in_words
-    return (
-        settled.named_account(own.account.number), settled.names.holder(own.account.holder), grouped(own.surrendered),
-        grouped(own.emissions), standing.bar(own), standing.amount(own.figure),
-        verdict if own.verdict in answers.SETTLED else html.tag("strong", verdict),
-    )  # fmt: skip
+    of = dict(zip(standing.COLUMNS, standing.operator_cells(settled, own)))
+    return [of[name] for name in COLUMNS]
 
 
 def month_page(served: Served) -> Any:
@@ -149,11 +146,9 @@ def month_page(served: Served) -> Any:
         raise WordsFault("no day is settled yet")
     # (without a word, the month of the last day)
     begin, end = said["from"] or str(dates[0].replace(day=1)), said["to"] or str(dates[0])
-    year = number_asked("year")
-    title, count, parts = served.reading.month(begin=begin, end=end, year=year, deadline=said["deadline"] or None)
-    return show_page(
-        "month", title, count=count, own=parts, begin=begin, end=end, year=year or "", deadline=said["deadline"]
-    )
+    deadline = said["deadline"] or None
+    title, count, parts = served.reading.month(begin=begin, end=end, year=number_asked("year"), deadline=deadline)
+    return show_page("month", title, count=count, own=parts, begin=begin, end=end)
 
 
 # What was done.
@@ -184,7 +179,7 @@ def find(served: Served) -> Any:
     query = flask.request.query_string.decode("ascii", "replace")
     whole = with_due_day(served.reading.waits_until, 5)
     return show_page(
-        "find", "Find", rows=rows, said=flask.request.args, query=query, shown_row=lambda row: cells_of_log(whole(row))
+        "find", "Find", rows=rows, query=query, shown_row=lambda row: cells_of_log(whole(row))
     )
 
 
@@ -193,8 +188,7 @@ def row_of_log(own: LogRow) -> tuple[Any, ...]:
     i = own.instruction
     named = ", ".join(map(str, dict.fromkeys(rules.named(i))))
     by = f"{i.proposer}, {i.approver}" if i.approver else i.proposer
-    outcome = WAITS if own.name == NOT_DUE else outcome_in_words(own)
-    return str(own.date), own.record, record_in_words(own), named, by, outcome
+    return str(own.date), own.record, record_in_words(own), named, by, outcome_in_words(own)
 
 
 def cells_of_log(row: Sequence[Any]) -> Sequence[Any]:
@@ -270,12 +264,15 @@ def job(served: Served, number: str) -> Any:
     there = served.jobs.jobs.get(number)
     if there is None:
         raise WordsFault("the desk knows nothing of this any more: Today and the journal say what was done")
-    has_changed = bool(there.seen) and there.seen != flask.g.state
     date = next((word.partition("=")[2] for word in there.words if word.startswith("--date=")), "")
+    leads = BEHIND.get(there.command, ("/", "Today"))
+    if there.status == 0 and there.command == "close":
+        leads = (f"/days/{date}", "To the day")
+    if there.status == 0 and there.made():
+        leads = (f"/jobs/{number}/packages.zip", "Download the packages")
     return show_page(
-        "job", WHAT[there.command], job=there, status=there.status, has_changed=has_changed, date=date,
-        is_asked_for=there.status == FOUND and any(ASKED_FOR in line for line in there.said("stdout")),
-        refresh=2 if there.status is None else None,
+        "job", PAGES[there.command], job=there, status=there.status, leads=leads,
+        has_changed=bool(there.seen) and there.seen != flask.g.state, refresh=2 if there.status is None else None,
     )  # fmt: skip
 
 
@@ -294,4 +291,4 @@ def packages(served: Served, number: str) -> Response:
 def document(_served: Served, name: str) -> Any:
     """The page of a document."""
     title, body = document_parts(name)
-    return flask.render_template("base.html", page="body.html", title=title, is_in=True, body=body)
+    return flask.render_template("base.html", title=title, is_in=True, body=body)

@@ -9,9 +9,8 @@ import time
 from collections import OrderedDict
 from dataclasses import replace
 from pathlib import Path
-from typing import Any, Callable, Iterator, TypeVar
+from typing import Any, Callable, TypeVar
 
-from registry_tools.desk.waiting import DeskSettled, DeskStatement, waits_until
 from registry_tools.errors import FileFault, WordsFault
 from registry_tools.office import close, composing, folder, handed, labels, lock, past, prepared, trial
 from registry_tools.office.composing import NextDay
@@ -19,12 +18,12 @@ from registry_tools.office.folder import Office
 from registry_tools.office.journal import Event
 from registry_tools.office.labels import Labels
 from registry_tools.office.layout import JOURNAL, LABELS, SETTINGS
-from registry_tools.pages import month
+from registry_tools.pages import indexed, month
 from registry_tools.pages.account import own_parts
 from registry_tools.pages.html import Frame, Markup, joined
 from registry_tools.pages.rulebook import Rulebook
-from registry_tools.pages.settled import ByHand, by_hand_before
-from registry_tools.pages.statement import DayOfAccounts
+from registry_tools.pages.settled import ByHand, Settled, by_hand_before
+from registry_tools.pages.statement import Statement
 from registry_tools.questions import find, history
 from registry_tools.texts.day_text import DayText
 from registry_tools.texts.pending import read_pending, waiting_before
@@ -39,6 +38,14 @@ LONG = 1.0
 # month, and so many dates a list.
 MOST_KEPT, DAYS_OF_STATEMENT, MOST_ROWS, MOST_DATES = 12, 31, 100, 10
 NEXT = Path("the next day")
+
+
+class DeskSettled(Settled):
+    """A settled day whose accounts have addresses of the desk."""
+
+    def account_address(self, number: int, root: str = "") -> str:
+        """Where the page of an account is."""
+        return f"/accounts/{number}"
 
 
 class Reading:
@@ -132,9 +139,15 @@ class Reading:
         return self.once(("settled", event.date), state, lambda: read_settled(self.office(), event))
 
     def waits_until(self, date: datetime.date, record: int) -> str:
-        """Until when an instruction of a settled day waits that was not due on it."""
-        settled = self.settled(date)
-        return settled.outcome(settled.log[record - settled.head.next_record]) if settled else waits_until(None)
+        """Until when an instruction waits that was not due on a settled day: the next day's file of what waits says
+        it, or that of the folder."""
+        office = self.office()
+        later = next((event for event in office.journal.filed() if event.date > date), None)
+        path = past.as_filed(office, later, "waiting") if later else office.next_folder / handed.WAITS
+        state = office.journal.last_line
+        waits = self.once(("waits", date), state, lambda: [own for own, _ in read_pending(str(path)).rows])
+        due = next((own.due or own.entered for own in waits if own.record == record), None)
+        return f"waits until {due.day} {due:%B} {due.year}" if due else "waits: the calendar has no due day"
 
     def by_hand(self, date: datetime.date) -> ByHand:
         """What people changed before a settled day."""
@@ -149,24 +162,13 @@ class Reading:
 
         return self.once(("by hand", date), filed[-1].line, work)
 
-    def days_of_statement(self) -> list[DayOfAccounts]:
-        """The last days, of which the page of an account tells."""
-        office = self.office()
-
-        def work() -> list[DayOfAccounts]:
-            filed = office.journal.filed()[-DAYS_OF_STATEMENT:]
-            days = past.read_all([past.pair_of(office, event) for event in filed])
-            return [DayOfAccounts(own.day, own.report) for own in days]
-
-        return self.once("statement", office.journal.last_line, work)
-
     def account(self, number: int) -> Markup | None:
         """All that stands on the page of an account; None, if there is no such account."""
-        settled = self.settled()
+        settled, office = self.settled(), self.asked().opened
         if settled is None or number not in settled.report.book:
             return None
-        own = DeskStatement(settled, number, self.days_of_statement(), self.waits_until)
-        return joined(*own_parts(settled, settled.report.book[number].account(), own), *own.waited_parts())
+        own = Statement(settled, number, indexed.days_of(office, number, DAYS_OF_STATEMENT), self.waits_until)
+        return joined(*own_parts(settled, settled.report.book[number].account(), own))
 
     def asked(self, **more: Any) -> argparse.Namespace:
         """The words of a question over all days."""
@@ -191,20 +193,6 @@ class Reading:
         key = ("month", said.begin, said.end, said.year, said.deadline)
         return self.once(key, self.state_of_names(), lambda: month.parts_of(said, MOST_ROWS))
 
-    def since(self, state: str) -> Iterator[str]:
-        """What was done behind a state that somebody has seen."""
-        line, parts, taken, _ = state.split(".")
-        office = self.office()
-        there, lines = office.handed_in(), [event.line for event in office.journal.events]
-        known = lines.index(line) + 1 if line in lines else 0
-        for event in office.journal.events[known:]:
-            yield f"{event.date} was {event.event} by {event.who}{f': {event.why}' if event.why else ''}"
-        is_same = office.journal.last_line == line
-        for part in there.parts[int(parts) if is_same else 0 :]:
-            yield f"{part.name} was handed in by {part.who}"
-        for own in there.taken[int(taken) if is_same else 0 :]:
-            yield f"place {own.place} was taken back by {own.who}: {own.why}"
-
     # The next day.
 
     def dates(self) -> list[datetime.date]:
@@ -217,19 +205,21 @@ class Reading:
         later = [date for date in composing.working_days(office, last, handed_in) if date > last.date]
         return [first, *(date for date in later if date != first)][:MOST_DATES]
 
+    def of_next(self, name: str, date: datetime.date, work: Callable[[], T]) -> T:
+        """What was worked out of the next day, if it is that of this date, or of the last one, as the folder is now."""
+        return self.once((name, date), f"{folder.state_of(self.office())} {date}", work)
+
     def next_day(self, word: str | None = None) -> NextDay:
         """The next day, as it stands."""
         office = self.office()
         handed_in = office.handed_in()
         date = composing.settlement_date(word, office, handed_in)
-        state = f"{folder.state_of(office)} {date}"
-        return self.once(("composed", date), state, lambda: composing.compose(office, handed_in.until(date), date))
+        return self.of_next("composed", date, lambda: composing.compose(office, handed_in.until(date), date))
 
     def text_of_next(self) -> DayText:
         """The text of the next day as it stands."""
         next_day = self.next_day()
-        state = f"{folder.state_of(self.office())} {next_day.date}"
-        return self.once("text", state, lambda: next_day.day(NEXT))
+        return self.of_next("text", next_day.date, lambda: next_day.day(NEXT))
 
     def tried(self, word: str | None) -> tuple[NextDay, list[trial.Looked], list[str]]:
         """The next day, what would come of each instruction, with what is new since the last look, and what the library
@@ -240,8 +230,7 @@ class Reading:
             looked = trial.look(next_day, next_day.day(NEXT), self.names())
             return looked, trial.of_library(next_day, looked)
 
-        state = f"{folder.state_of(office)} {next_day.date}"
-        looked, otherwise = self.once(("tried", next_day.date), state, work)
+        looked, otherwise = self.of_next("tried", next_day.date, work)
         trial.mark_new(office.next_folder / handed.LOOKED, looked)
         return next_day, looked, otherwise
 
@@ -253,8 +242,7 @@ class Reading:
         def work() -> close.Outcome:
             return close.outcome_of_day(close.settle(office, next_day, by_second=True))
 
-        state = f"{folder.state_of(office)} {next_day.date}"
-        return self.once(("closing", next_day.date), state, work), left
+        return self.of_next("closing", next_day.date, work), left
 
 
 def looks_of(path: Path) -> str:

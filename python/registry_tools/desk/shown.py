@@ -1,28 +1,37 @@
-"""How a page is shown, and what of its address is asked for."""
+"""How a page is shown, and what of its address is asked for. Tables go on in pages and are sorted by their columns.
+Page and order stand in the address, so that a link shows the same to a colleague. The answer to a form has no such
+address: its tables have their first rows, and no links."""
 import re
-from typing import Any
+import urllib.parse
+from typing import Any, Callable, Collection, Iterable, Sequence
 
 import flask
 from werkzeug.wrappers import Response
 
+from registry_tools.calendars.dates import date_of
 from registry_tools.desk import words
 from registry_tools.errors import WordsFault
 from registry_tools.office import taken, trial
-from registry_tools.pages import html
-from registry_tools.texts.checks import advice_for, checks
+from registry_tools.pages.beside import item_in_words
+from registry_tools.pages.html import Markup, Table, joined, link, paragraph, tag, words_in_cell
+from registry_tools.pages.settled import WAITS
+from registry_tools.pages.statement import Until
 
 # The word of an address that only fills the form of a page with what was typed.
 TYPED = "typed"
-NUMBER = re.compile("[1-9][0-9]{0,8}", re.ASCII)
+NUMBER, SIGNED = re.compile("[1-9][0-9]{0,8}", re.ASCII), re.compile("[-+]?[0-9]{1,30}")
+# How many rows of a table a page shows, and how many pages are named beside it.
+ROWS, NEAR = 100, 4
 
 
-def show_page(template: str, title: str, **more: Any) -> Response:
+def show_page(template: str, title: str, code: int = 200, **more: Any) -> Response:
     """A page of this template."""
-    text = flask.render_template("base.html", page=f"{template}.html", title=title, is_in=True, **more)
+    is_in = "token" in flask.session
+    text = flask.render_template("base.html", page=f"{template}.html", title=title, is_in=is_in, **more)
     if 'class="dense' in text or ' dense"' in text:
         # (a page with the widest tables is as wide as they are)
         text = text.replace("<body>", '<body class="broad">', 1)
-    return flask.make_response(words.seen(text, flask.current_app.config["OFFICE"]))
+    return flask.make_response(words.seen(text, *flask.current_app.config["PATHS"]), code)
 
 
 def asked(name: str) -> str:
@@ -31,25 +40,91 @@ def asked(name: str) -> str:
 
 
 def number_asked(name: str) -> int | None:
-    """The number that a word of the address says, if it is there."""
+    """The number that a word of the address says, if it is there. Raises WordsFault if it is none."""
     word = asked(name)
     if word and not NUMBER.fullmatch(word):
         raise WordsFault(f"{name}: {word!r} is no number of an account, a user or a year")
     return int(word) if word else None
 
 
+def address(**more: object) -> str:
+    """The address of this page with other words in it; with None, without this word."""
+    return address_of(flask.request.path, {**flask.request.args.to_dict(), **more})
+
+
+def address_of(path: str, args: dict[str, object]) -> str:
+    """The address of a page with these words in it; with None, without this word."""
+    # (not by url_for: words of the address such as _external would be its own)
+    query = urllib.parse.urlencode({key: own for key, own in args.items() if own is not None}, True, errors="replace")
+    return urllib.parse.quote(path) + (f"?{query}" if query else "")
+
+
+# What instructions and rows are shown by.
+
+
 def outcome(own: trial.Looked) -> object:
     """The outcome of an instruction; strong, if it is refused."""
-    return html.tag("strong", own.said()) if own.is_refused else own.said()
+    return tag("strong", own.said()) if own.is_refused else own.said()
 
 
 def row_of_taken(own: taken.TakenBack) -> tuple[object, ...]:
     """What was taken back: its place, what it was or, behind the close, its file, who did it, when and why."""
-    what = words.item_in_words(own.item) if own.item else f"a row of {own.part.name}" if own.part else ""
+    what = item_in_words(own.item) if own.item else f"a row of {own.part.name}" if own.part else ""
     return own.taken.place, what, own.taken.who, words.local(own.taken.at), own.taken.why
 
 
-def whys(looked: list[trial.Looked]) -> dict[str, str]:
-    """Of each check that refuses one of these, what it means and what to do."""
-    names = dict.fromkeys(own.outcome for own in looked if own.is_refused)
-    return {name: f"{checks()[name].meaning} {advice_for(name)}" for name in names}
+def with_due_day(until: Until, place: int) -> Callable[[Sequence[Any]], Sequence[Any]]:
+    """What shows the cells of log rows, which begin with day and record: where the outcome, at this place, is that it
+    only waits, until when. (`until` reads for it: only of the rows that are shown.)"""
+
+    def cells(row: Sequence[Any]) -> Sequence[Any]:
+        is_so = row[place] == WAITS
+        return (*row[:place], until(date_of("the day", row[0]), row[1]), *row[place + 1 :]) if is_so else row
+
+    return cells
+
+
+# Tables.
+
+
+def sort_key(cell: object) -> tuple[bool, int, str]:
+    """Numbers by what they are, and behind them words."""
+    text = words_in_cell(cell)
+    digits = text.replace(",", "")
+    return (False, int(digits), "") if SIGNED.fullmatch(digits) else (True, 0, text)
+
+
+def sorted_table(
+    caption: str,
+    columns: Sequence[str],
+    rows: Sequence[Sequence[Any]],
+    right: Collection[str] = (),
+    show: Callable[[Sequence[Any]], Sequence[Any]] = lambda row: row,
+    name: str = "",
+    empty: str = "",
+) -> Markup:
+    """A table, or if it has no row the words that say so; `show` makes the cells of the rows that are shown. Where a
+    page has several, each but the first has a name, which begins its words of the address."""
+    if empty and not rows:
+        return paragraph(empty)
+    sort, page, has_links = f"{name}sort", f"{name}page", flask.request.method != "POST"
+    word = flask.request.args.get(sort, "")
+    by = word.removeprefix("-")
+    if by in columns:
+        place = [*columns].index(by)
+        rows = sorted(rows, key=lambda row: sort_key(row[place]), reverse=word.startswith("-"))
+    last = max(-(-len(rows) // ROWS), 1)
+    number = min(max(flask.request.args.get(page, 1, type=int), 1), last)
+    part = [["" if cell is None else cell for cell in show(row)] for row in rows[(number - 1) * ROWS : number * ROWS]]
+    ways = {own: address(**{sort: f"-{own}" if word == own else own, page: None}) for own in columns}
+    heads = [link(ways[own], own) if own else own for own in columns] if has_links and len(rows) > 1 else None
+    counted = f"{caption} ({'' if has_links else f'the first {ROWS} of '}{len(rows):,})" if last > 1 else caption
+    own = Table(columns, right, heads=heads).of(counted, part)
+    return joined(own, pages_of(page, number, last)) if has_links and last > 1 else own
+
+
+def pages_of(page: str, number: int, last: int) -> Markup:
+    """Links to the other pages of a table: the first, the last, and those near."""
+    own: Iterable[int] = (place for place in range(1, last + 1) if place in (1, last) or abs(place - number) <= NEAR)
+    ways = (tag("strong", place) if place == number else link(address(**{page: place}), place) for place in own)
+    return tag("nav", tag("ol", *(tag("li", way) for way in ways)), aria_label="Pages of the table", class_="parts")

@@ -1,19 +1,13 @@
 """How the desk says things to people: fields, times, dates, rows."""
 import datetime
 import re
-from typing import Collection
 
-from registry_tools import tables
 from registry_tools.calendars.working_days import MORE_WORK
 from registry_tools.errors import escaped
-from registry_tools.office import handed
-from registry_tools.office.changes import edits
-from registry_tools.office.handed import Item
 from registry_tools.office.incoming import EMPTY_TABLE
 from registry_tools.pages.html import markup
 from registry_tools.sheets.importing import OTHER_FORM
 from registry_tools.sheets.table import OTHER_HEADINGS
-from registry_tools.texts import in_words
 
 # What the fields of an instruction are called.
 FIELDS = {
@@ -22,26 +16,12 @@ FIELDS = {
     "kind": "Kind of allowance", "amount": "Amount", "number": "Record of the surrender or deletion",
     "status": "New status", "year": "Year", "tonnes": "Tonnes",
 }  # fmt: skip
-# What words of the texts are called, and what a change by hand does.
-HOW = {edits.PUT: "set", edits.ADD: "add", edits.DROP: "leave out"}
-CALLED = {"both": "propose and approve", **tables.KINDS, **{act.word: act.name for act in tables.ACTS}}
+# What the lags are called.
 LAGS = {
     "trusted": "Working days that a transfer to an account of the trusted list waits",
     "other": "Working days that another transfer waits",
     "list": "Working days until an addition to a trusted list is in effect",
     "reversal": "Working days in which a surrender or a deletion can be reversed",
-}  # fmt: skip
-# What the fields of an account and of the lags are called, in the order of their rows.
-FIELDS_OF = {
-    "account": ["number", "kind", "holder", "status", "transfers outside the list", "waiver of approval", "correction",
-                "general", "aviation"],
-    "lags": ["lag of trusted transfers", "lag of other transfers", "lag of additions", "window of reversals"],
-}  # fmt: skip
-# What people know the items by that are handed in, one of them and several.
-ITEMS = {
-    handed.FIRST: ("instruction of the first text", "instructions of the first text"),
-    handed.DO: ("instruction", "instructions"), handed.CHANGES: ("account", "accounts"),
-    handed.EDITS: ("change by hand", "changes by hand"), handed.WORK: ("working day", "working days"),
 }  # fmt: skip
 # What messages say of words of commands, and what does the same here; the page of a command; and what its options are.
 AT_THE_DESK = {
@@ -49,13 +29,13 @@ AT_THE_DESK = {
     EMPTY_TABLE: "the page Hand in has empty tables", OTHER_HEADINGS: "the page Hand in has empty tables",
     MORE_WORK: "add working days (Change, the rules)", "--release releases it": "its box on the page Send releases it",
     "nothing to change: ./day change --help tells what can be": "nothing to change: the form says what is there",
-    "./day label lists the names": "the page Accounts has the names",
     "settled by no proved engine, as far as the journal says": "days for which the journal names no proved engine",
 }  # fmt: skip
 PAGES = {
     "hand-in": "Hand in", "take-back": "The next day", "try": "The next day", "change": "Change", "close": "Close",
-    "undo": "Days", "release": "Days", "status": "Today", "approve": "Today", "audit": "Audit", "send": "Send",
+    "undo": "Undo", "release": "Release", "status": "Today", "approve": "Today", "audit": "Audit", "send": "Send",
     "next": "The next day", "find": "Find", "history": "Accounts", "compliance": "Compliance", "month": "Months",
+    "label": "Names",
 }  # fmt: skip
 OPTIONS = {"date": "the day", "day": "the day", "from": "the first day", "to": "the last day", "who": "your name",
            "second": "by the second answer", "yes": "a yes"}  # fmt: skip
@@ -86,96 +66,13 @@ def local(at: str) -> str:
     return moment.astimezone().strftime("%Y-%m-%d %H:%M")
 
 
-def item_in_words(item: Item) -> str:
-    """Something that was handed in."""
-    fields = item.rows[0].split(",")
-    if item.part.kind in (handed.DO, handed.FIRST):
-        return in_words.words_of(fields[4], fields[5:])
-    if item.part.kind == handed.WORK:
-        return f"working day {fields[1]}"
-    more = f" and {len(item.rows) - 1} rows" if len(item.rows) > 1 else ""
-    return f"account {fields[1]}, as a whole{more}" if item.part.kind == handed.CHANGES else edit_in_words(item.rows[0])
-
-
-def edit_in_words(row: str) -> str:
-    """A change by hand, of its row."""
-    own = edits.edit_of(row)
-    of = f"account {own.number}" if own.number else "the rules"
-    if own.how == edits.OPEN:
-        return f"{of} is new: {CALLED[own.words[0]]}, holder {own.words[1]}"
-    return f"{of}: {HOW[own.how]} {words_of_row(','.join(own.words))}"
-
-
-def count_in_words(part: handed.Part) -> str:
-    """How many items a file has that was handed in."""
-    return f"{in_words.grouped(part.count)} {ITEMS[part.kind][part.count != 1]}"
-
-
-# Rows of accounts and rules, side by side.
-
-
-def side_by_side(rows: list[str]) -> list[tuple[str, str, str]]:
-    """What rows of a change are about, and what stood there before and stands there after. The rows begin with the
-    number of an account, if they are of one, and with - or +."""
-    found: dict[tuple[str, ...], list[str]] = {}
-    for line in rows:
-        number, sign, row = re.fullmatch("(?:([0-9]+): )?([-+]) (.*)", line).groups()  # type: ignore[union-attr]
-        tag, *fields = row.split(",")
-        key = (f"account {number}" if number else "the rules", tag, *fields[: key_length(tag)])
-        found.setdefault(key, ["", ""])[sign == "+"] = row
-    return [(key[0], *pair_in_words(*both)) for key, both in found.items()]
-
-
-BESIDE = ["Of", "Before", "After"]
-# A row of a difference, as commands write it: behind the number of an account, or behind a line that names it.
-ROW = re.compile("(by hand: the rules: )?(?:([0-9]+): | *)([-+] (?!do,|log,)[a-z]+,.*)")
-ABOUT = re.compile(".*account ([0-9]+), which stands in .*|by hand: .*")
-
-
-def apart(lines: list[str]) -> tuple[list[str], list[tuple[str, str, str]]]:
-    """Lines of a command or notes: those in words, and what rows of a difference among them say, side by side."""
-    told: list[str] = []
-    rows, about = [], ""
-    for line in lines:
-        row = ROW.fullmatch(line)
-        if row:
-            number = "" if row[1] else row[2] or about
-            rows.append(f"{number}: {row[3]}" if number else row[3])
-        else:
-            named = ABOUT.fullmatch(line)
-            about = (named[1] or "") if named else about
-            told.append(line)
-    return told, side_by_side(rows)
-
-
-def key_length(tag: str) -> int:
-    """How many fields say which row of a list it is."""
-    return {"account": 0, "lags": 0, "current": 0, "format": 0, "surrender": 2, "retired": 1}.get(tag, 1)
-
-
-def pair_in_words(before: str, after: str) -> tuple[str, str]:
-    """Two rows in words; of an account or of lags that stay, only what differs."""
-    old, new = before.split(","), after.split(",")
-    same = {place for place, (one, other) in enumerate(zip(old, new)) if before and after and one == other}
-    return words_of_row(before, same), words_of_row(after, same)
-
-
-def words_of_row(row: str, left_out: Collection[int] = ()) -> str:
-    """A row of an account or of the rules. Where each field has a name, those at some places may be left out."""
-    tag, *fields = row.split(",")
-    if tag in FIELDS_OF:
-        named = enumerate(zip(FIELDS_OF[tag], fields), 1)
-        return ", ".join(f"{name}: {field}" for place, (name, field) in named if place not in left_out)
-    more = ": " + " ".join(CALLED.get(own, own) for own in fields[1:]) if len(fields) > 1 else ""
-    return f"{tag} {fields[0]}{more}" if fields else "nothing"
-
-
-def seen(text: str, office: str) -> str:
+def seen(text: str, office: str, private: str) -> str:
     """The text of a page as it goes out. Messages name files by their paths, times in UTC, and words of commands: here
-    files of the folder begin in it, times are of this machine, and a page is named where a command was."""
+    files of the folder begin in it, uploads have their names, times are of this machine, and a page is named where a
+    command was."""
     for what, here in AT_THE_DESK.items():
         text = text.replace(what, here)
-    text = text.replace(f"{markup(office)}/", "")
+    text = re.sub(f"{re.escape(markup(office))}/|{re.escape(markup(private))}/[0-9a-f]+/", "", text)
     text = re.sub(f"(?:--office )?{re.escape(markup(office))}", "the folder", text)
     # (what stands in a tag, as what was typed into a field, stays)
     parts = re.split("(<[^>]*>)", text)

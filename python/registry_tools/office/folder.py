@@ -218,6 +218,18 @@ def state_of(office: Office) -> str:
     return f"{office.journal.last_line}.{len(there.parts)}.{len(there.taken)}.{files.sum_of(content)[:16]}"
 
 
+def done_since(office: Office, state: str) -> Iterator[str]:
+    """What was done behind a state of the folder that somebody has seen, in words."""
+    line, parts, taken, _ = state.split(".")
+    there, lines = office.handed_in(), [event.line for event in office.journal.events]
+    for event in office.journal.events[lines.index(line) + 1 if line in lines else 0 :]:
+        yield f"{event.date} was {event.event} by {event.who}{f': {event.why}' if event.why else ''}"
+    is_same = office.journal.last_line == line
+    yield from (f"{part.name} was handed in by {part.who}" for part in there.parts[int(parts) if is_same else 0 :])
+    for own in there.taken[int(taken) if is_same else 0 :]:
+        yield f"place {own.place} was taken back by {own.who}: {own.why}"
+
+
 def tell_left(what: str, left: str) -> None:
     """Tells that something is done, if something was left behind its one step."""
     if left:

@@ -59,14 +59,14 @@ class Incoming:
 
 
 class TableFault(FileFault):
-    """All that is wrong with the cells of a table."""
+    """All that is wrong with the cells of a table, and what did not come of it."""
 
-    def __init__(self, path: str, wrong: list[FileFault]) -> None:
+    def __init__(self, path: str, wrong: list[FileFault], end: str = "nothing was handed in") -> None:
         super().__init__(path, 0, "", "", "")
-        self.wrong = wrong
+        self.wrong, self.end = wrong, end
 
     def __str__(self) -> str:
-        return "\n".join(importing.told(self.wrong, "nothing was handed in"))
+        return "\n".join(importing.told(self.wrong, self.end))
 
 
 def add_words(parser: argparse.ArgumentParser) -> None:

@@ -15,19 +15,19 @@ meant.
 With --csv or --json, a row for each name.
 """
 import argparse
-import sys
 from collections.abc import Iterator
 
 from registry_tools import showing, tables
-from registry_tools.errors import FileFault, WordsFault, of_file, shown
+from registry_tools.errors import FileFault, WordsFault, shown
 from registry_tools.notes import LOOK, first_of
 from registry_tools.office import composing, files, folder, journal, labels, words
 from registry_tools.office.folder import Office
+from registry_tools.office.incoming import TableFault
 from registry_tools.office.journal import LABELLED, Event
 from registry_tools.office.labels import ACCOUNT, COLUMNS, HOLDER, KINDS, USER, Label, Labels
 from registry_tools.office.layout import LABELS
 from registry_tools.office.whole_change import Change
-from registry_tools.sheets import importing, mapping as mappings, sheets
+from registry_tools.sheets import mapping as mappings, sheets
 from registry_tools.sheets.mapping import Mapping
 from registry_tools.sheets.table import Table
 from registry_tools.texts.in_words import as_looked_up
@@ -139,9 +139,7 @@ def names_in(path: str, mapping: str | None) -> Iterator[Label]:
     made = [*names_of_table(table)]
     wrong = [own for own in made if isinstance(own, FileFault)]
     if wrong:
-        *before, last = importing.told(wrong, "no name was changed")
-        print("\n".join(before), file=sys.stderr)
-        raise of_file(path, last)
+        raise TableFault(path, wrong, "no name was changed")
     yield from (own for own in made if isinstance(own, Label))
 
 
@@ -174,11 +172,7 @@ def keep(office: Office, asked: list[Label], why: str) -> list[str]:
     path = office.path / LABELS
     there = files.bytes_in(path) if path.exists() else b""
     before, at = labels.of_folder(office.path), journal.now()
-    named = {key: label.name for key, label in before.named.items()}
-    asked = [own for own in asked if own.name != named.get((own.kind, own.number), "")]
-    new = [own._replace(at=at, who=office.who, why=why) for own in asked]
-    if not new:
-        raise WordsFault(SO_ALREADY)
+    new = [own._replace(at=at, who=office.who, why=why) for own in new_of(asked, before)]
     gap = b"\n" if there and not there.endswith(b"\n") else b""
     rows = "".join(f"{own.row()}\n" for own in new).encode("utf-8", "surrogateescape")
     content = there + gap + rows
@@ -187,7 +181,15 @@ def keep(office: Office, asked: list[Label], why: str) -> list[str]:
     with Change(office) as change:
         files.write_synced(change.folder / LABELS, content)
         change.keep(event_of(office, files.sum_of(content), why))
-    return [*first_of([*lines_of(new, before)], MOST_TOLD), *doubts_of(office, new, labels.of_folder(office.path))]
+    return [*first_of([*lines_of(new, before)], MOST_TOLD), *doubts_of(office, new, before)]
+
+
+def new_of(asked: list[Label], before: Labels) -> list[Label]:
+    """Those that are asked for and not named so already. Raises WordsFault if there is none."""
+    new = [own for own in asked if own.name != (before.named[own[:2]].name if own[:2] in before.named else "")]
+    if not new:
+        raise WordsFault(SO_ALREADY)
+    return new
 
 
 def take_over(office: Office, why: str) -> list[str]:
@@ -222,9 +224,11 @@ def lines_of(new: list[Label], before: Labels) -> Iterator[str]:
         yield f"labelled: {own.kind} {own.number}: {own.name or gone}{was}"
 
 
-def doubts_of(office: Office, new: list[Label], now: Labels) -> Iterator[str]:
-    """What may be a slip: a number that nobody has, and a name that another one has too."""
+def doubts_of(office: Office, new: list[Label], before: Labels) -> Iterator[str]:
+    """What may be a slip of names that are new behind those of before: a number that nobody has, and a name that
+    another one has too."""
     known = numbers_of(office)
+    now = Labels({key: own for key, own in (before.named | {own[:2]: own for own in new}).items() if own.name})
     strange = [own for own in new if own.name and int(own.number) not in known[own.kind]]
     for own in strange[:MOST_TOLD]:
         yield f"{LOOK}: there is no {own.kind} {own.number} yet"

@@ -110,13 +110,18 @@ def tell(looked: list[Looked], next_day: NextDay, places: set[int] | None = None
         print(streams.by_name(note))
     if any(tried.outcome != "done" for tried in shown):
         print("\n".join(table_of([tried for tried in shown if tried.outcome != "done"])))
-    for name in dict.fromkeys(tried.outcome for tried in refused):
-        print(f"{name}: {checks()[name].meaning} {advice_for(name)}")
+    print("".join(f"{name}: {said}\n" for name, said in whys(shown).items()), end="")
     done, waiting = sum(tried.outcome == "done" for tried in shown), sum(tried.waits for tried in shown)
     counts = f"done {done}, waiting {waiting}, refused {len(refused)}"
     if shown or places is None:
         print(f"{'' if places is None else 'of these, '}as it stands, on {next_day.date}: {counts}")
     return FOUND if refused else 0
+
+
+def whys(looked: list[Looked]) -> dict[str, str]:
+    """Of each check that refuses one of these, what it means and what to do."""
+    names = dict.fromkeys(tried.outcome for tried in looked if tried.is_refused)
+    return {name: f"{checks()[name].meaning} {advice_for(name)}" for name in names}
 
 
 # What was seen at the last look.

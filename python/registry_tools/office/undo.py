@@ -9,6 +9,7 @@ A day that was released is not taken back: what others know of stays. Then anoth
 """
 import argparse
 import datetime
+from pathlib import Path
 
 from registry_tools.calendars import dates
 from registry_tools.errors import FOUND, WordsFault, raise_first
@@ -41,17 +42,14 @@ def run(said: argparse.Namespace) -> int:
         last = last_of(office, said.day)
         # (what comes back has to be what was filed, and nothing else is taken away with it)
         raise_first([*office.changed_files(last), *office.strange_files(last)])
-        date, since = date_again(said.date, office, last), office.handed_in()
+        date = date_again(said.date, office, last)
         asked = f"--why {why}" if date == last.date else f"--date {date} --why {why}"
         approved = approvals.let_through(office, "undo", last.date, asked, last.line)
         if approved is None:
             return FOUND
         event = office.event(UNDONE, last.date, last.first, last.next, why, last.sums, approved)
         with Change(office) as change:
-            there = handed_files.again(change.make(prepared.NEW_NEXT), event.line, *filed_parts(office, last), date)
-            end = there.end
-            handed_files.put_left(there, since, since.parts)
-            write_waits_before(office, there)
+            there, end = put_again(office, last, date, change.make(prepared.NEW_NEXT), event.line)
             there.keep()
             change.keep(event)
     again = f"what it was made of is in {office.next_folder} again, {places(1, end)}, for {date} or later"
@@ -87,6 +85,19 @@ def date_again(word: str | None, office: Office, last: Event) -> datetime.date:
     if before and date <= before[-1].date:
         raise WordsFault(f"--date {word} is not later than {before[-1].date}, the day before")
     return date
+
+
+def put_again(
+    office: Office, last: Event, date: datetime.date, folder_of_next: Path, line: str
+) -> tuple[HandedIn, int]:
+    """Puts into an empty next/ behind this line what the last day was made of, for this day or later, what was handed
+    in since, and what waits then. Answers all that is there, and the place behind what the day was made of."""
+    since = office.handed_in()
+    there = handed_files.again(folder_of_next, line, *filed_parts(office, last), date)
+    end = there.end
+    handed_files.put_left(there, since, since.parts)
+    write_waits_before(office, there)
+    return there, end
 
 
 def filed_parts(office: Office, last: Event) -> tuple[HandedIn, dict[str, bytes]]:

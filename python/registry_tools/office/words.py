@@ -59,5 +59,6 @@ def changing(said: argparse.Namespace, command: str) -> Iterator[Office]:
         office.who, office.login = who, people.login_for(office.people, said.whom)
         people.must_be_allowed(office.people, office.login, command)
         if said.seen is not None and said.seen != folder.state_of(office):
-            raise WordsFault("the folder has changed since it was looked at, and nothing was done: look once more")
+            since = "; ".join(folder.done_since(office, said.seen)) or "another first text stands there"
+            raise WordsFault(f"somebody changed the folder since it was looked at, and nothing was done: {since}")
         yield office

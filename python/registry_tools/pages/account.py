@@ -1,12 +1,12 @@
 """The pages of accounts: a statement for each holder, with nothing on it that belongs to others."""
-from typing import Iterator
+from typing import Iterator, Sequence
 
 from registry_tools.office.labels import ACCOUNT
 from registry_tools.pages.compliance import amount
 from registry_tools.pages.html import Cells, Markup, Table, facts, heading, paragraph
 from registry_tools.pages.plan import figure
 from registry_tools.pages.settled import Settled, long_date
-from registry_tools.pages.statement import KINDS, ROOT, Balances, DayOfAccounts, Statement
+from registry_tools.pages.statement import KINDS, ROOT, Balances, DayTold, Statement
 from registry_tools.questions import compliance
 from registry_tools.second import rules
 from registry_tools.texts.in_words import grouped
@@ -17,6 +17,7 @@ NOTE = (
 )
 OTHERS = Table(["Day", "Record", "Entry", "By"])
 REFUSED = Table(["Day", "Record", "Instruction", "By", "Refused as", "What to do"])
+WAITED = Table(["Day", "Record", "Instruction", "Outcome"])
 WAITING = Table(["Record", "Instruction", "Proposed", "Due"])
 FIGURES = ["Emissions of the year", "Emissions so far", "Surrendered", "Correction", "Determined", "Figure now"]
 YEARS = Table(["Year", *FIGURES, "Verdict"], FIGURES)
@@ -164,6 +165,13 @@ def refused_parts(statement: Statement) -> Iterator[Markup]:
         yield REFUSED.of("Instructions that were refused", statement.refused)
 
 
+def waited_parts(statement: Statement) -> Iterator[Markup]:
+    """What was not due on its day, if something was."""
+    if statement.waited:
+        yield heading("Not due on its day")
+        yield WAITED.of("Each is entered again by itself on its due day", statement.waited)
+
+
 def waiting_parts(statement: Statement) -> Iterator[Markup]:
     """What waits for its due day, if something does."""
     waiting = [*statement.waiting()]
@@ -188,11 +196,12 @@ def own_parts(settled: Settled, account: rules.Account, statement: Statement) ->
     yield facts_of(settled, account, statement)
     yield from entry_parts(statement)
     yield from refused_parts(statement)
+    yield from waited_parts(statement)
     yield from waiting_parts(statement)
     yield from standing_parts(settled, account, statement)
 
 
-def account_page(settled: Settled, number: int, days: list[DayOfAccounts]) -> str:
+def account_page(settled: Settled, number: int, days: Sequence[DayTold]) -> str:
     """The page of an account; `days` are those of the statement, of which the last one is the settled day."""
     account = settled.report.book[number].account()
     statement = Statement(settled, number, days)

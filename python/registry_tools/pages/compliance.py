@@ -7,7 +7,7 @@ from registry_tools.office.labels import ACCOUNT
 from registry_tools.pages import index
 from registry_tools.pages.html import Cells, Markup, Table, link, paragraph, table, tag, words_in_cell
 from registry_tools.pages.rulebook import RULES
-from registry_tools.pages.settled import LongTable, Settled, count_of, rows_of_parts
+from registry_tools.pages.settled import OUTCOMES, LongTable, Settled, count_of, kind_of, rows_of_parts
 from registry_tools.questions import compliance
 from registry_tools.questions.compliance import Standing
 from registry_tools.texts.in_words import grouped
@@ -120,21 +120,19 @@ def compliance_pages(settled: Settled, files: dict[str, str], year: int | None, 
     yield from own.pages(settled.frame, note=note, is_across=True)
 
 
-ACCOUNT_COLUMNS = ["Account", "Kind", "Holder", "Status", "General", "Aviation", "Done", "Refused"]
+ACCOUNT_COLUMNS = ["Account", "Kind", "Holder", "Status", "General", "Aviation", "Done", "Refused", "Waiting"]
 NUMBERS_OF_ACCOUNT = ACCOUNT_COLUMNS[4:]
 NAME = "Name"
 
 
 def account_rows(settled: Settled) -> Iterator[Cells]:
-    """What each account holds, and how many instructions about it were done and refused."""
-    done, refused = Counter[int](), Counter[int]()
-    for logged in settled.log:
-        (done if logged.is_done else refused).update(logged.touched())
+    """What each account holds, and how many instructions about it were done and refused, and wait."""
+    count = Counter((number, kind_of(own)) for own in settled.log for number in own.touched())
     parts = rows_of_parts(settled.report.numbers)
     starts = {first for part in parts for first, _ in index.ranges(part, index.RANGE)}
     for number, block in settled.report.book.items():
         _, _, kind, holder, status, _, _, _, general, aviation = block.rows[0].split(",")
-        touched = grouped(done[number]), grouped(refused[number])
+        touched = (grouped(count[number, outcome]) for outcome in OUTCOMES)
         named = [settled.names.name_of(ACCOUNT, number)] if settled.names.has(ACCOUNT) else []
         yield (
             index.cell(settled, number, number in starts), *named, kind, settled.names.holder(holder), status,
@@ -147,7 +145,8 @@ def account_list_pages(settled: Settled, files: dict[str, str], note: str) -> It
     rows = [*account_rows(settled)]
     lead = paragraph(
         f"{count_of(len(rows), 'account', 'accounts')} after {settled.head.date}: what each holds, and how many "
-        "instructions of the day that move its allowances or are about it were done and refused. What was refused as "
+        "instructions of the day that move its allowances or are about it were done and refused, and wait for their "
+        "due day. What was refused as "
         "UnknownAccount is counted at no account.",
         class_="lead",
     )

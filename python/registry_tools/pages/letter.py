@@ -2,7 +2,7 @@
 it that belongs to others."""
 import datetime
 import re
-from collections.abc import Iterator
+from collections.abc import Iterator, Sequence
 
 from registry_tools.calendars.due_days import NOT_DUE
 from registry_tools.office.labels import ACCOUNT
@@ -10,7 +10,7 @@ from registry_tools.pages.account import entry_parts, facts_of, refused_parts, s
 from registry_tools.pages.html import HEAD, PARTS, Cells, Markup, Table, heading, joined, style_of, tag
 from registry_tools.pages.rulebook import Rulebook
 from registry_tools.pages.settled import Settled, long_date
-from registry_tools.pages.statement import DayOfAccounts, Own, Statement
+from registry_tools.pages.statement import DayTold, Own, Statement
 from registry_tools.texts.checks import Check, without_marks
 from registry_tools.texts.own import OwnRow
 from registry_tools.texts.report import LogRow
@@ -76,7 +76,7 @@ class LetterStatement(Statement):
     """The statement of an account in a letter: what was not due is no refusal, but waits; and what was not done at
     first and was done later is told as done later."""
 
-    def __init__(self, settled: Settled, number: int, days: list[DayOfAccounts]) -> None:
+    def __init__(self, settled: Settled, number: int, days: Sequence[DayTold]) -> None:
         # The tries of what was not done, by its fields: it is the same instruction if all of them are the same.
         self.asked: dict[tuple[str, ...], list[list[LogRow]]] = {}
         self.done_later: list[Cells] = []
@@ -153,7 +153,7 @@ def page_of(title: str, lead: str, sections: list[Markup]) -> str:
     return f"{head}<body>\n{body}\n</body>\n</html>\n"
 
 
-def letter(settled: Settled, days: list[DayOfAccounts], holder: int, places: dict[int, int], head: str) -> str:
+def letter(settled: Settled, days: Sequence[DayTold], holder: int, places: dict[int, int], head: str) -> str:
     """The page of a holder: each account from the day at its place on; and the head of the folder that it was made
     of."""
     name = settled.names.holder(holder)

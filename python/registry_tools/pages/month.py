@@ -12,6 +12,7 @@ from dataclasses import dataclass
 from typing import Any, Iterator
 
 from registry_tools.calendars.deadlines import DueDates
+from registry_tools.calendars.due_days import NOT_DUE
 from registry_tools.errors import WordsFault
 from registry_tools.office import index, naming, past
 from registry_tools.office.asking import hand_changes
@@ -25,7 +26,7 @@ from registry_tools.pages.account import chart
 from registry_tools.pages.compliance import bar
 from registry_tools.pages.html import Markup, Table, facts, heading, paragraph
 from registry_tools.pages.plan import figure
-from registry_tools.pages.settled import count_of, long_date
+from registry_tools.pages.settled import OUTCOMES, count_of, kind_of, long_date
 from registry_tools.questions.compliance import COMPLIANT, MISSING, NO_EMISSIONS, Standing, last_year_over, standings
 from registry_tools.second import rules
 from registry_tools.texts import changes as by_hand
@@ -40,7 +41,8 @@ MISSED = Table(["Account", "Holder", "Surrendered of emissions", "Missing", "Unt
 BY_HAND = Table(["Day", "Account", "Change"])
 OF_RULES, WORK = "the rules", "work,"
 KIND_COLUMNS = [f"{kind.capitalize()} allowances" for kind in rules.KINDS]
-DAYS = Table(["Day", "Done", "Refused", *KIND_COLUMNS], ("Done", "Refused", *KIND_COLUMNS))
+NUMBERS_OF_DAY = (*map(str.capitalize, OUTCOMES), *KIND_COLUMNS)
+DAYS = Table(["Day", *NUMBERS_OF_DAY], NUMBERS_OF_DAY)
 NOTHING = "Nothing."
 
 
@@ -114,11 +116,12 @@ def until_in_words(last: datetime.date, deadline: datetime.date | None) -> str:
 
 @dataclass
 class DayOfMonth:
-    """What a page of several days tells of one of them: how many instructions were done, the checks that refused
-    others, the allowances after it, and what people changed before it."""
+    """What a page of several days tells of one of them: how many instructions were done and only wait, the checks that
+    refused others, the allowances after it, and what people changed before it."""
 
     date: datetime.date
     done: int
+    waiting: int
     refused: Counter[str]
     allowances: dict[str, int]
     changes: list[HandChange]
@@ -127,17 +130,17 @@ class DayOfMonth:
 def day_of_pair(past_day: PastDay) -> DayOfMonth:
     """What the page tells of a day, of its pair."""
     sums, log = sums_of(past_day.report.book_rows), past_day.report.log
-    refused = Counter(logged.name for logged in log if not logged.is_done)
+    refused = Counter(logged.name for logged in log if kind_of(logged) == "refused")
     allowances = {kind: sums[kind].allowances for kind in rules.KINDS}
-    done = sum(logged.is_done for logged in log)
-    return DayOfMonth(past_day.date, done, refused, allowances, [*past_day.changes()])
+    done, waiting = (sum(kind_of(logged) == kind for logged in log) for kind in ("done", "waiting"))
+    return DayOfMonth(past_day.date, done, waiting, refused, allowances, [*past_day.changes()])
 
 
 def days_of_folder(office: Office, begin: datetime.date, end: datetime.date) -> list[DayOfMonth]:
     """The days of a folder, by its index."""
     span = str(begin), str(end)
     days = {
-        str(event.date): DayOfMonth(event.date, 0, Counter(), {}, [])
+        str(event.date): DayOfMonth(event.date, 0, 0, Counter(), {}, [])
         for event in office.journal.filed() if begin <= event.date <= end
     }  # fmt: skip
     with index.opened(office, begin, end) as database:
@@ -148,6 +151,8 @@ def days_of_folder(office: Office, begin: datetime.date, end: datetime.date) -> 
         for date, name, count in database.execute(counted, span):
             if name is None:
                 days[date].done = count
+            elif name == NOT_DUE:
+                days[date].waiting = count
             else:
                 days[date].refused[name] = count
         totals = "SELECT date, kind, held + surrendered FROM totals WHERE date BETWEEN ? AND ?"
@@ -165,7 +170,10 @@ def totals_parts(days: list[DayOfMonth]) -> Iterator[Markup]:
     for kind in rules.KINDS:
         if len(balances) > 1 and any(held[kind] for _, held in balances):
             yield figure(f"{kind.capitalize()} allowances, held and surrendered together", chart(kind, balances))
-    numbers = ((day, (day.done, day.refused.total(), *(day.allowances[kind] for kind in rules.KINDS))) for day in days)
+    numbers = (
+        (day, (day.done, day.refused.total(), day.waiting, *(day.allowances[kind] for kind in rules.KINDS)))
+        for day in days
+    )
     yield DAYS.of("Each day, and what there is after it", [(day.date, *map(grouped, own)) for day, own in numbers])
 
 

@@ -5,7 +5,7 @@ from dataclasses import dataclass, field
 
 from registry_tools.pages import grid
 from registry_tools.pages.html import Markup, joined, markup, paragraph, table, tag
-from registry_tools.pages.settled import Settled, count_of, outcome_in_words, record_in_words
+from registry_tools.pages.settled import OUTCOMES, Settled, count_of, kind_of, outcome_in_words, record_in_words
 from registry_tools.texts.in_words import box_lines, grouped
 from registry_tools.texts.report import LogRow
 
@@ -49,7 +49,7 @@ def plan_of(log: Iterable[LogRow]) -> dict[int, Task]:
 def box_of(logged: LogRow, column: int, row: int) -> grid.Box:
     """The box of an instruction."""
     note = f"{logged.record}: {record_in_words(logged)}; {outcome_in_words(logged)}"
-    outcome = "done" if logged.is_done else f"refused, check {logged.code}"
+    outcome = f"refused, check {logged.code}" if kind_of(logged) == "refused" else kind_of(logged)
     lines = [*box_lines(logged.record, logged.instruction), outcome]
     return grid.Box(column, row, lines, note, str(logged.record), not logged.is_done)
 
@@ -162,20 +162,15 @@ def bars(title: str, rows: Sequence[tuple[object, int]]) -> Markup:
 
 def busiest_parts(settled: Settled) -> list[Markup]:
     """The accounts that most instructions touch."""
-    all_touched: Counter[int] = Counter()
-    refused: Counter[int] = Counter()
-    for logged in settled.log:
-        own = logged.touched()
-        all_touched.update(own)
-        if not logged.is_done:
-            refused.update(own)
+    all_touched = Counter(number for logged in settled.log for number in logged.touched())
+    count = Counter((number, kind_of(logged)) for logged in settled.log for number in logged.touched())
     busiest = sorted(all_touched.items(), key=lambda touched: (-touched[1], touched[0]))[:BUSIEST]
     if not busiest:
         return []
     said = "The busiest accounts, by how many instructions touch them"
-    counts = ((account, (count, count - refused[account], refused[account])) for account, count in busiest)
+    counts = ((account, (of, *(count[account, kind] for kind in OUTCOMES))) for account, of in busiest)
     rows = [(settled.account_link(account), *map(grouped, own)) for account, own in counts]
-    columns = ["Account", "Instructions", "Done", "Refused"]
+    columns = ["Account", "Instructions", "Done", "Refused", "Waiting"]
     numbers = table("The busiest accounts in numbers", columns, rows, right=columns[1:])
     return [figure(said, bars(said, busiest)), numbers]
 

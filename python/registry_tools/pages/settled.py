@@ -7,6 +7,7 @@ from typing import Any, Callable, Collection, Iterable, Iterator, Sequence, Type
 
 from registry_tools.calendars.due_days import NOT_DUE, due_day_after, head_after
 from registry_tools.office.labels import ACCOUNT, Labels
+from registry_tools.pages import beside
 from registry_tools.pages.html import Cells, Frame, Markup, Table, joined, link, markup, paragraph, tag, words_in_cell
 from registry_tools.pages.rulebook import Rulebook
 from registry_tools.second import rules
@@ -19,12 +20,14 @@ from registry_tools.texts.pending import Waiting
 from registry_tools.texts.report import LogRow, Report
 
 Row = TypeVar("Row")
+# What becomes of an instruction.
+OUTCOMES = ("done", "refused", "waiting")
+WAITS = "waits for its due day"
 # In how many rows a table is cut into pages.
 ROWS_OF_PAGE = 1_000
 NO_DUE_DAY = "none in the calendar"
-CHANGED = Table(["Account", "Change"])
+CHANGED = Table(beside.BESIDE)
 WHO = Table(["At", "Who", "Why", "Change"])
-OF_RULES = "the rules"
 NOT_KNOWN = (
     "What people changed before this day is told if the day before is named, by --before or --history of ./day page."
 )
@@ -40,8 +43,13 @@ def record_in_words(logged: LogRow) -> str:
 def outcome_in_words(logged: LogRow) -> str:
     """What came of an instruction."""
     if not logged.is_done:
-        return f"refused: {logged.name}"
+        return WAITS if logged.name == NOT_DUE else f"refused: {logged.name}"
     return "done" if logged.figure is None else f"done, figure {grouped(logged.figure)}"
+
+
+def kind_of(logged: LogRow) -> str:
+    """Which of the outcomes it is: an instruction was done or refused, or only waits for its due day."""
+    return "done" if logged.is_done else "waiting" if logged.name == NOT_DUE else "refused"
 
 
 @functools.lru_cache(maxsize=1_000)
@@ -104,10 +112,11 @@ class Settled:
         return f"{first} to {last}" if first != last else str(first)
 
     def refused(self) -> dict[int, list[LogRow]]:
-        """The refused instructions by the code of the check, in the order of the checks."""
+        """The refused instructions by the code of the check, in the order of the checks. What only waits for its due
+        day is none of them."""
         found: dict[int, list[LogRow]] = {}
         for logged in self.log:
-            if not logged.is_done:
+            if kind_of(logged) == "refused":
                 found.setdefault(logged.code, []).append(logged)
         return dict(sorted(found.items()))
 
@@ -187,7 +196,8 @@ def told_in(folder: Path) -> list[list[str]]:
     """Who changed what and why, by the folder of a day."""
     from registry_tools.office.changes import listing  # (most pages are made without a folder)
 
-    return [[str(cell) for cell in row[1:]] for row in listing.changes_of_day(folder, "")]
+    items = listing.items_of_day(folder)
+    return [[item.part.at, item.part.who, item.part.name, beside.item_in_words(item)] for item in items]
 
 
 def by_hand_parts(settled: Settled, by_hand: ByHand) -> list[Markup]:
@@ -196,10 +206,16 @@ def by_hand_parts(settled: Settled, by_hand: ByHand) -> list[Markup]:
         return [paragraph(NOT_KNOWN)]
     if not by_hand.rows:
         return [paragraph("Nothing was changed by hand before this day.")]
-    shown = by_hand.rows[:MOST_CHANGES]
-    rows = [(settled.named_account(change.account) if change.account else OF_RULES, change.words) for change in shown]
+    shown = [f"{row.account}: {row.words}" if row.account else row.words for row in by_hand.rows[:MOST_CHANGES]]
+    rows = [(linked(settled, of), *both) for of, *both in beside.side_by_side(shown)]
     first = f": the first {MOST_CHANGES} of {len(by_hand.rows)}" if len(by_hand.rows) > MOST_CHANGES else ""
-    found = [CHANGED.of(f"Rows that people changed before this day{first}", rows)]
+    found = [CHANGED.of(f"What people changed before this day{first}", rows)]
     if by_hand.told:
         found.append(WHO.of("Who changed it, and why", by_hand.told[:MOST_CHANGES]))
     return found
+
+
+def linked(settled: Settled, of: str) -> object:
+    """What a change is of: the rules, or an account by its number and its name."""
+    number = of.removeprefix("account ")
+    return joined_words("account", settled.named_account(int(number))) if number.isdigit() else of

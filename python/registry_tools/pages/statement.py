@@ -1,10 +1,12 @@
-"""What a statement tells of an account: what came in and went out on its days, what was refused, and what waits."""
+"""What a statement tells of an account: what came in and went out on its days, what was refused, and what waited and
+waits."""
 import datetime
-from typing import Iterator
+from typing import Callable, Iterator, Mapping, Protocol, Sequence
 
+from registry_tools.calendars.due_days import NOT_DUE
 from registry_tools.pages.html import Cells, Markup, Table, heading, paragraph
 from registry_tools.pages.rulebook import ACTS
-from registry_tools.pages.settled import NO_DUE_DAY, Settled
+from registry_tools.pages.settled import NO_DUE_DAY, WAITS, Settled
 from registry_tools.second import rules
 from registry_tools.texts.day_text import DayText
 from registry_tools.texts.in_words import grouped
@@ -17,12 +19,28 @@ KINDS = rules.KINDS
 ENTRIES = Table(["Day", "Record", "Entry", "By", "In", "Out", "Balance"], ("In", "Out", "Balance"))
 # What an account learns of a refused instruction that is not its own.
 OF_ANOTHER = "An instruction of another account"
+Until = Callable[[datetime.date, int], str]
 # When, and what an account held of each kind then.
 Balances = list[tuple[object, dict[str, int]]]
 
 
+class DayTold(Protocol):
+    """What a statement asks of each of its days."""
+
+    date: datetime.date
+    rows: Mapping[int, Sequence[OwnRow]]
+
+    def opening(self, number: int) -> dict[str, int] | None:
+        """What an account held before the day; None if there was no such account."""
+
+    def users(self, number: int) -> set[str]:
+        """The representatives of an account on the day, as they are spelled."""
+
+
 class DayOfAccounts:
     """A day of the statement: its log rows by account, and what each account held before it."""
+
+    rows: Mapping[int, Sequence[OwnRow]]
 
     def __init__(self, day: DayText, report: Report) -> None:
         self.day, self.date = day, day.head.date
@@ -32,6 +50,10 @@ class DayOfAccounts:
         """What an account held before the day; None if there was no such account."""
         block = self.day.book.get(number)
         return dict(zip(KINDS, map(int, block.held_fields))) if block else None
+
+    def users(self, number: int) -> set[str]:
+        """The representatives of an account on the day, as they are spelled."""
+        return users_of(self.day.book.get(number))
 
 
 class Own:
@@ -74,16 +96,20 @@ class Own:
 
 
 class Statement:
-    """What happened at an account over one or several days: the entries of each kind of allowance, other entries, and
-    refusals."""
+    """What happened at an account over one or several days: the entries of each kind of allowance, other entries,
+    refusals, and what was not due on its day."""
 
-    def __init__(self, settled: Settled, number: int, days: list[DayOfAccounts]) -> None:
-        self.settled, self.number, self.days = settled, number, days
+    def __init__(
+        self, settled: Settled, number: int, days: Sequence[DayTold], until: Until = lambda date, record: WAITS
+    ) -> None:
+        """`until` tells of a day and a record that was not due on it until when it waits."""
+        self.settled, self.number, self.days, self.until = settled, number, days, until
         # Its representatives on the day that is followed: By names those, as the own statement of that day does.
         self.users: set[str] = set()
         self.entries: dict[str, list[Cells]] = {kind: [] for kind in KINDS}
         self.others: list[Cells] = []
         self.refused: list[Cells] = []
+        self.waited: list[Cells] = []
         self.balances: Balances = []
         # (an account that was opened on a later day than the first one held nothing before)
         self.held = days[0].opening(number) or dict.fromkeys(KINDS, 0)
@@ -92,12 +118,12 @@ class Statement:
         for day in days:
             self.follow(day)
 
-    def follow(self, day: DayOfAccounts) -> None:
+    def follow(self, day: DayTold) -> None:
         """Enters a day."""
         opening = day.opening(self.number)
         if opening is None:
             return
-        self.users = users_of(day.day.book[self.number])
+        self.users = day.users(self.number)
         for kind in KINDS:
             if opening[kind] != self.held[kind]:
                 self.enter((day.date, "", "Changed by hand before this day", ""), kind, opening[kind])
@@ -115,6 +141,10 @@ class Statement:
     def take(self, date: datetime.date, own_row: OwnRow) -> None:
         """Enters a log row."""
         logged = own_row.logged
+        if logged.name == NOT_DUE:
+            words = Own(logged, self.number, self.users).words_with_amount if own_row.is_whole else OF_ANOTHER
+            self.waited.append((date, logged.record, words, self.until(date, logged.record)))
+            return
         if not own_row.is_whole:
             nothing = ("", "refused", "Nothing: this account did not ask for it.")
             self.refused.append((date, logged.record, OF_ANOTHER, *nothing))

@@ -8,7 +8,7 @@ from registry_tools.pages.html import Cells, Markup, Table, link, paragraph, tab
 from registry_tools.pages.plan import plan_parts
 from registry_tools.pages.rulebook import ACTS
 from registry_tools.pages.settled import (
-    NO_DUE_DAY, ByHand, LongTable, Settled, by_hand_parts, count_of, long_date, record_in_words,
+    NO_DUE_DAY, OUTCOMES, ByHand, LongTable, Settled, by_hand_parts, count_of, kind_of, long_date, record_in_words,
 )  # fmt: skip
 from registry_tools.second.rules import KINDS
 from registry_tools.texts.books import Movements, sums_of
@@ -32,23 +32,23 @@ def lead(settled: Settled) -> Markup:
     log, next_one = settled.log, f"The next record number is {settled.report.next_record}."
     if not log:
         return paragraph(f"The day has no instruction. {next_one}", class_="lead")
-    done = sum(logged.is_done for logged in log)
+    count = Counter(map(kind_of, log))
     numbers = f"numbers {log[0].record} to {log[-1].record}" if len(log) > 1 else f"number {log[0].record}"
-    outcome = f"{grouped(done)} done, {grouped(len(log) - done)} refused"
+    outcome = f"{grouped(count['done'])} done, {grouped(count['refused'])} refused"
+    waiting = f", {grouped(count['waiting'])} waiting for their due day" if count["waiting"] else ""
     got = f"{count_of(len(log), 'instruction', 'instructions')} got the record {numbers}"
-    return paragraph(f"{got}: {outcome}. {next_one}", class_="lead")
+    return paragraph(f"{got}: {outcome}{waiting}. {next_one}", class_="lead")
 
 
 def acts_table(settled: Settled) -> Markup:
-    """How many instructions of each act were done and refused."""
-    done, refused = Counter[str](), Counter[str]()
-    for logged in settled.log:
-        (done if logged.is_done else refused)[logged.instruction.act] += 1
-    both, link_to = done + refused, settled.rulebook.act_link
-    rows = [(link_to(act), *map(grouped, (done[act], refused[act], both[act]))) for act in ACTS if both[act]]
-    foot = ("all acts", grouped(done.total()), grouped(refused.total()), grouped(len(settled.log)))
-    columns = ["Act", "Done", "Refused", "All"]
-    return table("Instructions by act", columns, rows, right=columns[1:], foot=[foot], is_short=True)
+    """How many instructions of each act were done and refused, and how many wait."""
+    count = Counter((own.instruction.act, kind) for own in settled.log for kind in (kind_of(own), "all"))
+    columns = (*OUTCOMES, "all")
+    acts = [act for act in ACTS if count[act, "all"]]
+    rows = [(settled.rulebook.act_link(act), *(grouped(count[act, kind]) for kind in columns)) for act in acts]
+    foot = ("all acts", *(grouped(sum(count[act, kind] for act in acts)) for kind in columns))
+    heads = ["Act", *(kind.capitalize() for kind in columns)]
+    return table("Instructions by act", heads, rows, right=heads[1:], foot=[foot], is_short=True)
 
 
 def totals_parts(settled: Settled) -> list[Markup]:

@@ -63,11 +63,17 @@ def in_folder(said: argparse.Namespace) -> Iterator[list[Cell]]:
 
 
 def first_text(office: Office, account: int) -> Iterator[list[Cell]]:
-    """The account as the first text of the folder has it, if it has it. Only this text is unpacked."""
+    """The account as the first text of the folder has it, if it has it."""
+    for date, row in first_row(office, account):
+        yield [date, None, f"first text: {row}", BY_HAND, *map(int, row.split(",")[8:10])]
+
+
+def first_row(office: Office, account: int) -> Iterator[tuple[str, str]]:
+    """The row of an account in the first text of the folder with its day, if it has it. Only this text is unpacked.
+    Raises FileFault if it was changed."""
     first, begins = office.journal.filed()[0], f"account,{account},"
-    for row in rows_of(str(past.as_filed(office, first, "day"))).rows:
-        if row.startswith(begins):
-            yield [str(first.date), None, f"first text: {row}", BY_HAND, *map(int, row.split(",")[8:10])]
+    yield from ((str(first.date), row) for row in rows_of(str(past.as_filed(office, first, "day"))).rows
+                if row.startswith(begins))
 
 
 def hand_rows(database: sqlite3.Connection, account: int) -> Iterator[list[Cell]]:

@@ -5,7 +5,7 @@
   refused, of another  that names this account: that it was refused, and nothing else, if the proposer represents one of
                        the two accounts. What a stranger tries shows nowhere
 """
-from typing import NamedTuple
+from typing import Callable, NamedTuple
 
 from registry_tools.second import rules
 from registry_tools.texts.accounts import Block
@@ -31,17 +31,18 @@ def own_log(day: DayText, report: Report) -> dict[int, list[OwnRow]]:
     log: dict[int, list[OwnRow]] = {}
     for logged in report.log:
         for number in rules.named(logged.instruction):
-            if number in day.book and may_see(day, logged, number):
-                log.setdefault(number, []).append(OwnRow(logged, logged.is_done or number == logged.instruction.first))
+            own = own_row_of(logged, number, lambda other: users_of(day.book.get(other)))
+            if own and number in day.book:
+                log.setdefault(number, []).append(own)
     return log
 
 
-def may_see(day: DayText, logged: LogRow, number: int) -> bool:
-    """Whether the holder of an account may see anything of an instruction that names it."""
+def own_row_of(logged: LogRow, number: int, users: Callable[[int], set[str]]) -> OwnRow | None:
+    """A log row as the holder of an account that it names may see it; None, if he may not see that there is one.
+    `users` tells the representatives of an account on the day."""
     i = logged.instruction
-    if logged.is_done or number == i.first:
-        return True
-    return i.fields[1] in users_of(day.book[number]) | users_of(day.book.get(i.first))
+    is_own = logged.is_done or number == i.first
+    return OwnRow(logged, is_own) if is_own or i.fields[1] in users(number) | users(i.first) else None
 
 
 def own_fields(i: rules.Instruction, number: int) -> list[str]:

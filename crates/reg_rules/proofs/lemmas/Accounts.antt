@@ -137,14 +137,3 @@ account-append_left (x ∷ xs) ys a among = by (eqb x.number a) among (account-a
         → cond b (Some x) (account (xs ++ ys) a) ≡ cond b (Some x) (account xs a)
     by true h more = refl
     by false h more = more h
-
-pub account-append_right : (xs ys : State) (a : ℕ) → is_among (numbers xs) a ≡ false
-    → account (xs ++ ys) a ≡ account ys a
-account-append_right [] ys a among = refl
-account-append_right (x ∷ xs) ys a among = by (eqb x.number a) among (account-append_right xs ys a)
-  where
-    by : (b : Bool) → (b || is_among (numbers xs) a) ≡ false
-        → (is_among (numbers xs) a ≡ false → account (xs ++ ys) a ≡ account ys a)
-        → cond b (Some x) (account (xs ++ ys) a) ≡ account ys a
-    by true h more = absurd cc
-    by false h more = more h

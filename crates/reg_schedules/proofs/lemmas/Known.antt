@@ -1,12 +1,12 @@
 -- The accounts that an instruction touches are in the book, and stay there.
-use Rattle.std.proofs.Common.{◌≡◌, ℕ, zero, suc, ◌-◌, ◌≤◌, arith, true, false, eqb, []}
+use Rattle.std.proofs.Common.{◌≡◌, ℕ, zero, suc, ◌-◌, true, false, eqb, []}
 use Rattle.std.proofs.Common.{Option, Some, None, refl, sym, ap, ◌∙◌}
 use Rattle.std.specs.Prelude.{is_some, slice_get}
 use Rattle.std.specs.List.{IsDistinct}
 use Rattle.std.specs.Option.{option_map_or}
 use Rattle.std.proofs.lemmas.List.Elements.{recursion_from_All}
 use Rattle.reg_base.specs.declared.instruction.Instruction.{Instruction}
-use Rattle.reg_base.specs.Directory.{DirectoryValue, is_known}
+use Rattle.reg_base.specs.Directory.{is_known}
 use Rattle.reg_base.specs.Footprint.{footprint, is_among, EachFootprintIsSound}
 use Rattle.reg_base.specs.Touches.{touches, is_touched}
 use Rattle.reg_base.proofs.lemmas.Among.{at_among}
@@ -58,18 +58,6 @@ pub touched_account : EachFootprintIsSound → (day : DayValue) (a : ℕ)
 touched_account sound day a touched =
     let (n, lt, on) = touched_somewhere (directory day) day.batch.instructions a touched in
     touched_known sound day (suc n) a on
-
--- the footprint of a place, counted from 1
-pub footprint_is : (day : DayValue) (place : ℕ) (i : Instruction) (d : DirectoryValue) → 1 ≤ place
-    → slice_get day.batch.instructions (place - 1) ≡ Some i → d ≡ directory day
-    → footprint d i.act ≡ footprint_at day place
-footprint_is day zero i d low at is = absurd (omega arith)
-footprint_is day (suc k) i d low at is =
-    let same : suc k - 1 ≡ k = omega arith in
-    ap (λ e. footprint e i.act) is
-    ∙ sym (ap (λ (o : Option Instruction).
-    option_map_or (λ (x : Instruction). footprint (directory day) x.act) o [])
-    (ap (slice_get day.batch.instructions) (sym same) ∙ at))
 
 -- no footprint has an account twice
 pub footprint_distinct : EachFootprintIsSound → (day : DayValue) (place : ℕ) → IsDistinct eqb (footprint_at day place)

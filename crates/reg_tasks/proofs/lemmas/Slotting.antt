@@ -227,11 +227,3 @@ module _ {N : Type 0} {b : Ghosts N} where
         → cond c (option_map name_of s) (standing_in os ss a) ≡ Some (a, 0)
     by true h e more = head ∙ ap (λ n. Some (n, 0)) (eqb-true o.account a h)
     by false h e more = more e
-
-  pub size_opened : (os : List Opening) (slots : List (Option (Parcel N b)))
-      → map (option_map name_of) slots ≡ map unopened os → length slots ≡ length os
-  size_opened [] [] e = refl
-  size_opened [] (s ∷ ss) e = absurd cc
-  size_opened (o ∷ os) [] e = absurd cc
-  size_opened (o ∷ os) (s ∷ ss) e = let tail : map (option_map name_of) ss ≡ map unopened os = cc in
-      ap suc (size_opened os ss tail)

@@ -3,7 +3,7 @@
 ghost use Rattle.std.specs.Prelude.{◌≡◌, ◌++◌, map, IfOk, OnOk};
 ghost use Rattle.std.specs.List.{flat_map};
 ghost use Rattle.csv.specs.Writing.{default_writer, row_text};
-ghost use Rattle.reg_book.specs.Parts.{joined};
+ghost use Rattle.reg_facts.specs.Lists.{joined_lists};
 ghost use Rattle.reg_text.specs.Report.{text_of};
 ghost use Rattle.reg_text.specs.Spelling.{end_row};
 ghost use Rattle.reg_text.specs.Determined.{determined_row, determined_rows, figures_rows};
@@ -63,7 +63,7 @@ fn put_accounts(text: &mut Text, row: &mut RowText, accounts: &[Account]) -> Res
 // Adds the rows of the determined figures of the accounts of lists, one list after another.
 #[tactic(auto, using(crate::proofs::TextFacts::row_loop))]
 fn put_lists(text: &mut Text, row: &mut RowText, lists: &[Vec<Account>]) -> Result<(), NoMemory>
-    ensures { OnOk result (text.new ≡ text.old ++ text_of (flat_map determined_rows (joined lists.now))) }
+    ensures { OnOk result (text.new ≡ text.old ++ text_of (flat_map determined_rows (joined_lists lists.now))) }
 {
     for list in lists {
         put_accounts(text, row, list.as_slice())?;
@@ -74,7 +74,7 @@ fn put_lists(text: &mut Text, row: &mut RowText, lists: &[Vec<Account>]) -> Resu
 // Adds the figures of the accounts of lists, and the row `end`.
 fn put_figures(text: &mut Text, lists: &[Vec<Account>]) -> Result<(), NoMemory>
     ensures { OnOk result (text.new
-        ≡ text.old ++ text_of (flat_map determined_rows (joined lists.now)) ++ row_text default_writer end_row) }
+        ≡ text.old ++ text_of (flat_map determined_rows (joined_lists lists.now)) ++ row_text default_writer end_row) }
 {
     let mut row = RowText::new();
     put_lists(text, &mut row, lists)?;

@@ -5,7 +5,7 @@ ghost use Rattle.std.specs.List.{flat_map};
 ghost use Rattle.reg_base.specs.declared.limits.TheConstants.{MOST_ACCOUNTS};
 ghost use Rattle.reg_account.specs.Account.{IsAccount};
 ghost use Rattle.reg_book.specs.Day.{rows_replied};
-ghost use Rattle.reg_book.specs.Parts.{joined};
+ghost use Rattle.reg_facts.specs.Lists.{joined_lists};
 ghost use Rattle.reg_book.specs.Totals.{totals_of};
 ghost use Rattle.reg_text.specs.Sections.{account_block};
 ghost use Rattle.reg_text.specs.Spelling.{book_rows};
@@ -13,6 +13,7 @@ ghost use Rattle.reg_text.specs.Report.{text_of, report_rows};
 ghost use Rattle.reg_text.specs.Pieces.{text_of_pieces, MadeAt, AreBlocksOfLists};
 
 use crate::rooms::room_for_lists;
+use crate::spare::Spare;
 use crate::writing::pieces::{Blocks, add_accounts, add_log, spell_head, spell_tail};
 use crate::writing::report::{put_lists, spell_report};
 use crate::writing::row::RowText;
@@ -25,13 +26,13 @@ use std::alloc::{AllocError, Global};
 use std::thread;
 use std::thread::Threads;
 
-// The blocks of the accounts of lists, and their totals.
-fn spell_lists(alloc: Global, lists: &[Vec<Account>]) -> Result<Blocks, NoMemory>
-    requires fit { All IsAccount (joined lists.now) }
-    requires few { length (joined lists.now) ≤ MOST_ACCOUNTS }
+// The blocks of the accounts of lists in the place of these bytes, and their totals.
+fn spell_lists(bytes: Vec<u8>, lists: &[Vec<Account>]) -> Result<Blocks, NoMemory>
+    requires fit { All IsAccount (joined_lists lists.now) }
+    requires few { length (joined_lists lists.now) ≤ MOST_ACCOUNTS }
     ensures { IfOk result (AreBlocksOfLists 0 lists.now) }
 {
-    let mut text = Text::with_room(alloc, room_for_lists(lists));
+    let mut text = Text::over(bytes, room_for_lists(lists));
     let mut row = RowText::new();
     put_lists(&mut text, &mut row, lists)?;
     Ok(Blocks {
@@ -40,16 +41,18 @@ fn spell_lists(alloc: Global, lists: &[Vec<Account>]) -> Result<Blocks, NoMemory
     })
 }
 
-// Spells the blocks of each run of so many lists, each in a thread of its own where one can be started.
+// Spells the blocks of each run of so many lists, each in a thread of its own where one can be started, in memory that
+// is spare if there is some.
 fn spell_all_lists<R: Threads + Sync>(
     rt: &R,
     alloc: Global,
+    spare: &Spare,
     lists: &[Vec<Account>],
     size: usize,
 ) -> Result<Vec<Result<Blocks, NoMemory>>, AllocError>
     requires size { 0 < size }
-    requires fit { All IsAccount (joined lists.now) }
-    requires few { length (joined lists.now) ≤ MOST_ACCOUNTS }
+    requires fit { All IsAccount (joined_lists lists.now) }
+    requires few { length (joined_lists lists.now) ≤ MOST_ACCOUNTS }
     ensures len { IfOk result (λ runs. vec_len runs ≡ length lists.now / size + min 1 (length lists.now % size)) }
     ensures each { IfOk result (λ runs. MadeAt AreBlocksOfLists lists.now size runs.items) }
 {
@@ -59,9 +62,9 @@ fn spell_all_lists<R: Threads + Sync>(
         lists,
         size,
         &|_, run|
-            requires fit { All IsAccount (joined run.now) }
-            requires few { length (joined run.now) ≤ MOST_ACCOUNTS }
-        { spell_lists(alloc, run) },
+            requires fit { All IsAccount (joined_lists run.now) }
+            requires few { length (joined_lists run.now) ≤ MOST_ACCOUNTS }
+        { spell_lists(spare.take(alloc), run) },
     )
 }
 
@@ -73,24 +76,26 @@ fn lists_of_run(count: usize, workers: usize) -> usize
     (count.saturating_sub(1) / workers).saturating_add(1)
 }
 
-// Adds the blocks of the accounts of lists, in at most so many pieces. Answers their totals.
+// Adds the blocks of the accounts of lists, in at most so many pieces, in spare memory if there is some. Answers their
+// totals.
 fn add_lists<R: Threads + Sync>(
     rt: &R,
     alloc: Global,
     pieces: &mut Vec<Vec<u8>>,
+    spare: &Spare,
     lists: &[Vec<Account>],
     workers: usize,
 ) -> Result<BothTotals, NoMemory>
     requires workers { 1 ≤ workers }
-    requires fit { All IsAccount (joined lists.now) }
-    requires few { length (joined lists.now) ≤ MOST_ACCOUNTS }
+    requires fit { All IsAccount (joined_lists lists.now) }
+    requires few { length (joined_lists lists.now) ≤ MOST_ACCOUNTS }
     ensures text { OnOk result (text_of_pieces pieces.new.items
-        ≡ text_of_pieces pieces.old.items ++ text_of (flat_map account_block (joined lists.now))) }
-    ensures totals { IfOk result (λ totals. totals ≡ totals_of (joined lists.now)) }
+        ≡ text_of_pieces pieces.old.items ++ text_of (flat_map account_block (joined_lists lists.now))) }
+    ensures totals { IfOk result (λ totals. totals ≡ totals_of (joined_lists lists.now)) }
 {
     let size = lists_of_run(lists.len(), workers);
     let mut totals = BothTotals::none();
-    for run in spell_all_lists(rt, alloc, lists, size)? {
+    for run in spell_all_lists(rt, alloc, spare, lists, size)? {
         let blocks = run?;
         totals = totals.plus(&blocks.totals);
         pieces.push(blocks.text)?;
@@ -103,6 +108,7 @@ fn add_blocks<R: Threads + Sync>(
     rt: &R,
     alloc: Global,
     pieces: &mut Vec<Vec<u8>>,
+    spare: &Spare,
     parts: &Parts,
     workers: usize,
 ) -> Result<BothTotals, NoMemory>
@@ -113,9 +119,9 @@ fn add_blocks<R: Threads + Sync>(
 {
     let lists = parts.lists();
     if lists.len() == 1 {
-        return add_accounts(rt, alloc, pieces, lists[0].as_slice(), workers);
+        return add_accounts(rt, alloc, pieces, spare, lists[0].as_slice(), workers);
     }
-    add_lists(rt, alloc, pieces, lists, workers)
+    add_lists(rt, alloc, pieces, spare, lists, workers)
 }
 
 // So many log rows and accounts are spelled by one thread: to start others would take longer.
@@ -131,6 +137,8 @@ fn is_short(lists: &[Vec<Account>], replies: &[Reply]) -> bool {
 /// a run of the lists in which the accounts lie, or of the accounts of a single list, and adds these accounts up for
 /// the totals. A short report is one piece.
 ///
+/// `spare` are texts that are no longer needed, as the pieces of an input: the blocks of accounts take their memory.
+///
 /// # Errors
 /// `NoMemory` if memory ran out. That a thread can't be started is no error.
 pub fn write_report_pieces<R: Threads + Sync>(
@@ -139,6 +147,7 @@ pub fn write_report_pieces<R: Threads + Sync>(
     parts: &Parts,
     batch: &Batch,
     replies: &[Reply],
+    spare: Vec<Vec<u8>>,
     workers: usize,
 ) -> Result<Vec<Vec<u8>>, NoMemory>
     requires { 1 ≤ workers }
@@ -152,7 +161,8 @@ pub fn write_report_pieces<R: Threads + Sync>(
     }
     add_log(rt, alloc, &mut pieces, batch, replies, workers)?;
     pieces.push(spell_head(alloc, parts.next_record())?)?;
-    let totals = add_blocks(rt, alloc, &mut pieces, parts, workers)?;
+    let spare = Spare::of(alloc, spare);
+    let totals = add_blocks(rt, alloc, &mut pieces, &spare, parts, workers)?;
     pieces.push(spell_tail(alloc, &totals)?)?;
     Ok(pieces)
 }

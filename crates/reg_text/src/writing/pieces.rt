@@ -16,6 +16,7 @@ ghost use Rattle.reg_text.specs.Totals.{rows_of_totals};
 ghost use Rattle.reg_text.specs.Pieces.{text_of_pieces, MadeAt, IsLogOf, AreBlocksOf};
 
 use crate::rooms::{room_for_accounts, room_for_log};
+use crate::spare::Spare;
 use crate::writing::entries::put_log_after;
 use crate::writing::report::{put_next, put_totals};
 use crate::writing::row::RowText;
@@ -74,11 +75,11 @@ fn spell_logs<R: Threads + Sync>(
     )
 }
 
-// The blocks of accounts, and their totals.
-fn spell_blocks(alloc: Global, accounts: &[Account]) -> Result<Blocks, NoMemory>
+// The blocks of accounts in the place of these bytes, and their totals.
+fn spell_blocks(bytes: Vec<u8>, accounts: &[Account]) -> Result<Blocks, NoMemory>
     ensures { IfOk result (AreBlocksOf 0 accounts.now) }
 {
-    let mut text = Text::with_room(alloc, room_for_accounts(accounts));
+    let mut text = Text::over(bytes, room_for_accounts(accounts));
     let mut row = RowText::new();
     put_each(&mut text, &mut row, accounts)?;
     Ok(Blocks {
@@ -87,10 +88,12 @@ fn spell_blocks(alloc: Global, accounts: &[Account]) -> Result<Blocks, NoMemory>
     })
 }
 
-// Spells the blocks of each run of so many accounts, each in a thread of its own where one can be started.
+// Spells the blocks of each run of so many accounts, each in a thread of its own where one can be started, in memory
+// that is spare if there is some.
 fn spell_all_blocks<R: Threads + Sync>(
     rt: &R,
     alloc: Global,
+    spare: &Spare,
     accounts: &[Account],
     size: usize,
 ) -> Result<Vec<Result<Blocks, NoMemory>>, AllocError>
@@ -103,7 +106,7 @@ fn spell_all_blocks<R: Threads + Sync>(
         alloc,
         accounts,
         size,
-        &|_, run| { spell_blocks(alloc, run) },
+        &|_, run| { spell_blocks(spare.take(alloc), run) },
     )
 }
 
@@ -135,11 +138,12 @@ pub(crate) fn add_log<R: Threads + Sync>(
     Ok(())
 }
 
-/// Adds the blocks of accounts, in at most so many pieces. Answers their totals.
+/// Adds the blocks of accounts, in at most so many pieces, in spare memory if there is some. Answers their totals.
 pub(crate) fn add_accounts<R: Threads + Sync>(
     rt: &R,
     alloc: Global,
     pieces: &mut Vec<Vec<u8>>,
+    spare: &Spare,
     accounts: &[Account],
     workers: usize,
 ) -> Result<BothTotals, NoMemory>
@@ -152,7 +156,7 @@ pub(crate) fn add_accounts<R: Threads + Sync>(
 {
     let size = run_size(accounts.len(), workers);
     let mut totals = BothTotals::none();
-    for run in spell_all_blocks(rt, alloc, accounts, size)? {
+    for run in spell_all_blocks(rt, alloc, spare, accounts, size)? {
         let blocks = run?;
         totals = totals.plus(&blocks.totals);
         pieces.push(blocks.text)?;

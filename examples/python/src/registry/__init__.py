@@ -13,7 +13,7 @@ from __future__ import annotations
 
 from registry import native
 from registry.native import (
-    Cause, Fault, NoAccount, NoNextDate, Text, engine_version, refusal_sentence, refusal_word,
+    Cause, Fault, NoAccount, NoNextDate, Text, engine_version, refusal_sentence, refusal_word, report_most,
 )  # fmt: skip
 from registry.rows import (
     Account, Act, Determined, Done, Holding, Instruction, LogRow, Refused, RefusedRow, Retired, Share, Task, Totals,
@@ -23,7 +23,7 @@ from registry.texts import Day, Log, Report, Statement, refusals
 __all__ = [
     "Account", "Act", "Cause", "Day", "Determined", "Done", "Fault", "Holding", "Instruction", "Log", "LogRow",
     "NoAccount", "NoNextDate", "Refused", "RefusedRow", "Report", "Retired", "Share", "Statement", "Task", "Totals",
-    "engine_version", "refusal_sentence", "refusal_word", "refusals", "settle",
+    "engine_version", "refusal_sentence", "refusal_word", "refusals", "report_most", "settle",
 ]  # fmt: skip
 
 # The version of the engine that this package was made with.

@@ -5,6 +5,7 @@ While a call runs, other Python threads go on: the library shares nothing betwee
 from __future__ import annotations
 
 import ctypes
+import operator
 import os
 from datetime import date
 from enum import IntEnum
@@ -18,6 +19,8 @@ LIBRARY, OF_SYSTEM = "libregistry.so", "libregistry.so.1"
 DONE, NO_ACCOUNT, FAULT, NO_MEMORY, NO_DATE = 0, 2, 3, 4, 6
 # The library takes account numbers of 32 bits: a larger number is that of no account.
 MOST_NUMBER = 2**32 - 1
+# The largest length that it takes.
+MOST_LENGTH = int(ctypes.c_size_t(-1).value)
 
 Text = Union[bytes, bytearray, memoryview]
 
@@ -148,6 +151,18 @@ plan = _command("plan")
 figures = _command("figures")
 totals = _command("totals")
 statements = _command("statements")
+
+
+def report_most(day_length: int) -> int:
+    """How many bytes the report of a day text of this length has at most: eight times as many. It was proved. A length
+    that no memory has gets the largest number of the library."""
+    length = operator.index(day_length)
+    if length < 0:
+        raise ValueError(f"there is no text of {length} bytes")
+    # (looked up when it is asked, as in `_function`)
+    call: Any = _library.registry_report_most
+    call.restype, call.argtypes = ctypes.c_size_t, [ctypes.c_size_t]
+    return int(call(min(length, MOST_LENGTH)))
 
 
 def statement(day: Text, account: int) -> bytes:

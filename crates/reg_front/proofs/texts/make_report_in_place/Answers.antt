@@ -1,11 +1,9 @@
-use Rattle.std.proofs.Common.{◌++◌, ℕ, List, Vec, ap, ◌∙◌}
-use Rattle.std.specs.Global.{Global}
+use Rattle.std.proofs.Common.{List, ap, ◌∙◌}
 use Rattle.reg_rules.specs.declared.reply.Reply.{Reply}
 use Rattle.reg_book.specs.Book.{BookValue}
 use Rattle.reg_book.specs.Chains.{book_after}
 use Rattle.reg_book.specs.Day.{day_of, replies_of, rows_replied}
 use Rattle.reg_text.specs.Inputs.{day_of_parts}
-use Rattle.reg_text.specs.Pieces.{text_of_pieces}
 use Rattle.reg_text.specs.Report.{text_of, report_rows}
 use Rattle.reg_front.proofs.Reports.{reported}
 use Rattle.reg_front.proofs.texts.make_report_in_place.Goals as goal
@@ -13,9 +11,7 @@ use Rattle.reg_front.proofs.texts.make_report_in_place.Goals as goal
 pub returns : goal.returns
 returns c =
     let closed = c.in_ok-closed.closed in
-    ap (λ (pieces : List (Vec ℕ Global)). text_of_pieces pieces ++ c.used_for.result.text.items)
-    c.used_for.ensures.pieces
-    ∙ ap (λ (text : Vec ℕ Global). text.items) c.used_for.ensures.text
+    c.used_for.ensures
     ∙ reported c.log_is_made_again.ensures (day_of_parts c.args.day) closed.book closed.replies.items
     c.in_ok-text.text.items
     (c.in_ok-closed.ensures.book

@@ -1,5 +1,6 @@
 use Rattle.std.proofs.Common.{◌≡◌, ℕ, map}
-use Rattle.reg_regions.specs.Stealing.{first_numbers, times_noted}
+use Rattle.reg_facts.specs.Lists.{first_numbers}
+use Rattle.reg_regions.specs.Stealing.{times_noted}
 use Rattle.reg_regions.proofs.running.with_idle.Given as goal
 
 -- there are notes of the workers so far, and no place more

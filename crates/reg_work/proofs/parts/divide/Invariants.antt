@@ -1,5 +1,5 @@
 use Rattle.std.proofs.Common.{◌≡◌, ◌≤◌, ◌<◌, ◌+◌, ◌-◌, ◌*◌, ◌++◌, All, map, length, vec_len}
-use Rattle.reg_work.specs.Parts.{joined}
+use Rattle.reg_facts.specs.Lists.{joined_lists}
 use Rattle.reg_work.proofs.parts.divide.Given as goal
 
 -- the parts that were made, and the rest, are the whole
@@ -8,6 +8,6 @@ invariant-loop-index g l = record {
   made : length l.parts.items ≡ l.index;
   left : vec_len l.rest ≡ (l.count - l.index) * l.least + (l.larger - l.index);
   few : l.larger < l.count;
-  whole : joined l.parts.items ++ l.rest.items ≡ l.fn.items.items;
+  whole : joined_lists l.parts.items ++ l.rest.items ≡ l.fn.items.items;
   even : All (λ size. (l.least ≤ size) × (size ≤ l.least + 1)) (map vec_len l.parts.items);
 }

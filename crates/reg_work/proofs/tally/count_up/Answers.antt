@@ -4,7 +4,7 @@ use Rattle.reg_facts.specs.Counting.{times, once}
 use Rattle.reg_facts.proofs.lemmas.Times.{times-append}
 use Rattle.reg_claim.specs.declared.views.SeatView.{SeatView}
 use Rattle.reg_claim.specs.Seats.{known}
-use Rattle.reg_work.specs.Parts.{joined}
+use Rattle.reg_facts.specs.Lists.{joined_lists}
 use Rattle.reg_work.specs.Shifts.{workers_of}
 use Rattle.reg_work.specs.EndedWorkers.{ended_numbers, all_done, all_closing}
 use Rattle.reg_work.proofs.Counting.{times-mapped}
@@ -49,9 +49,9 @@ loop-ended_worker-preserved g c =
           ∙ ap (λ ss. c.loop-ended_worker.work.done.items ++ all_done ss) (sym items)
           ∙ i.done;
       closing = ap (λ ps. ps ++ all_closing c.next.new.self.rest.items) c.in_ok-add.ensures.closing
-          ∙ append_assoc (joined c.loop-ended_worker.work.closing.items) worker.closing.items
+          ∙ append_assoc (joined_lists c.loop-ended_worker.work.closing.items) worker.closing.items
           (all_closing c.next.new.self.rest.items)
-          ∙ ap (λ ss. joined c.loop-ended_worker.work.closing.items ++ all_closing ss) (sym items)
+          ∙ ap (λ ss. joined_lists c.loop-ended_worker.work.closing.items ++ all_closing ss) (sym items)
           ∙ i.closing;
     }
 
@@ -76,7 +76,7 @@ returns g c =
       };
       done = sym (append-nil c.loop-ended_worker.work.done.items)
           ∙ ap (λ ss. c.loop-ended_worker.work.done.items ++ all_done ss) (sym none) ∙ i.done;
-      closing = sym (append-nil (joined c.loop-ended_worker.work.closing.items))
-          ∙ ap (λ ss. joined c.loop-ended_worker.work.closing.items ++ all_closing ss) (sym none) ∙ i.closing;
+      closing = sym (append-nil (joined_lists c.loop-ended_worker.work.closing.items))
+          ∙ ap (λ ss. joined_lists c.loop-ended_worker.work.closing.items ++ all_closing ss) (sym none) ∙ i.closing;
       each_done = λ p. sym (i.rows p) ∙ all.all whole p ∙ ap (λ n. once n p) places_are;
     }

@@ -3,7 +3,7 @@ use Rattle.reg_facts.specs.Counting.{times}
 use Rattle.reg_claim.specs.Seats.{known, seat_table}
 use Rattle.reg_tasks.specs.Gathering.{places_of}
 use Rattle.reg_work.specs.Ends.{sees_end}
-use Rattle.reg_work.specs.Parts.{joined}
+use Rattle.reg_facts.specs.Lists.{joined_lists}
 use Rattle.reg_work.specs.Shifts.{times_in, workers_of}
 use Rattle.reg_work.specs.EndedWorkers.{ended_numbers, all_done, all_closing}
 use Rattle.reg_work.proofs.tally.count_up.Given as goal
@@ -22,6 +22,6 @@ invariant-loop-ended_worker g l = record {
   workers : workers_of l.work.shifts.items ++ ended_numbers l.ended_worker-iterator.rest.items
       ≡ ended_numbers l.fn.ended_workers.items;
   done : l.work.done.items ++ all_done l.ended_worker-iterator.rest.items ≡ all_done l.fn.ended_workers.items;
-  closing : joined l.work.closing.items ++ all_closing l.ended_worker-iterator.rest.items
+  closing : joined_lists l.work.closing.items ++ all_closing l.ended_worker-iterator.rest.items
       ≡ all_closing l.fn.ended_workers.items;
 }

@@ -1,6 +1,6 @@
 use Rattle.std.proofs.Common.{◌++◌}
 use Rattle.reg_book.proofs.lemmas.TotalFacts.{AddUpWith}
-use Rattle.reg_book.specs.Parts.{joined}
+use Rattle.reg_facts.specs.Lists.{joined_lists}
 use Rattle.reg_text.specs.declared.writing.pieces.Blocks.{Blocks}
 use Rattle.reg_text.specs.Pieces.{AreBlocksOfLists, text_of_pieces}
 use Rattle.reg_text.proofs.BlockFacts.{blocks_text}
@@ -12,8 +12,9 @@ abbrev pub invariant-loop-run : goal.invariant-loop-run
 invariant-loop-run g l = record {
   next : (goal.iterator-loop-run g).can_next l.run-iterator;
   ends : (goal.iterator-loop-run g).is_finite l.run-iterator;
-  spelled : IsSpelled AreBlocksOfLists (λ first lists. blocks_text (joined lists)) (λ (blocks : Blocks). blocks.text)
-      (λ others. AddUpWith l.totals (joined l.fn.lists) (joined others))
-      (text_of_pieces l.fn.pieces.items ++ blocks_text (joined l.fn.lists)) l.size l.pieces.items
+  spelled : IsSpelled AreBlocksOfLists (λ first lists. blocks_text (joined_lists lists))
+      (λ (blocks : Blocks). blocks.text)
+      (λ others. AddUpWith l.totals (joined_lists l.fn.lists) (joined_lists others))
+      (text_of_pieces l.fn.pieces.items ++ blocks_text (joined_lists l.fn.lists)) l.size l.pieces.items
       l.run-iterator.rest.items;
 }
