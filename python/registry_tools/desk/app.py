@@ -66,7 +66,8 @@ def make(served: Served) -> flask.Flask:
     app.config.update(
         PATHS=(str(served.path), str(served.jobs.private)), SECRET_KEY=secrets.token_bytes(32),
         MAX_CONTENT_LENGTH=MOST_BYTES, MAX_FORM_MEMORY_SIZE=MOST_FORM,
-        SESSION_COOKIE_NAME=f"desk-{served.host.rpartition(':')[2]}", SESSION_COOKIE_HTTPONLY=True, SESSION_COOKIE_SAMESITE="Strict",
+        SESSION_COOKIE_NAME=f"desk-{served.host.rpartition(':')[2]}", SESSION_COOKIE_HTTPONLY=True,
+        SESSION_COOKIE_SAMESITE="Strict",
     )  # fmt: skip
     # (the gate stands before all pages, also those that are not there)
     app.before_request(functools.partial(gate.let_in, served))
