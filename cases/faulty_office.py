@@ -193,7 +193,7 @@ def as_before(office: Path, heading: str) -> None:
     begins = before = hashlib.sha256(heading.encode()).hexdigest()
     text, lines = heading, {there.beginning: begins}
     for event in there.events:
-        said = {**dict.fromkeys(journal.FILES, ""), **event.sums, **event._asdict(), "before": before}
+        said = {**dict.fromkeys(journal.FILES, ""), **event.sums, **vars(event), "before": before}
         path = office / "days" / str(event.date) / journal.FILES["handed"]
         if event.event == "filed":
             without_logins(path, lines)

@@ -89,7 +89,7 @@ def read(path: str, forms: Forms = Forms()) -> Incoming:
     if forms.mapping.path or is_table(content):
         return read_table(path, content, forms)
     source = rows_of(path)
-    kind = kind_of(source)
+    kind = kind_of_rows(source)
     count = checked_count(path, kind)
     # (checking takes the row `end` away)
     return Incoming(path, kind, rows_of(path), count, bytes_of(path))
@@ -132,7 +132,7 @@ def ending_of(content: bytes) -> str:
     return sheets.ending_of(content) if sheets.is_workbook(content) else ".csv"
 
 
-def kind_of(source: Rows) -> str:
+def kind_of_rows(source: Rows) -> str:
     """What a file has to hand in, by its first row."""
     tag = source.rows[0].partition(",")[0] if source.rows else ""
     for kind in (DO, CHANGES, WORK):

@@ -57,13 +57,8 @@ def items_of(office: Office) -> Iterator[tuple[str, Item]]:
     yield from ((NEXT, item) for item in office.handed_in().items(CHANGES, EDITS))
 
 
-def changes_of_day(path: Path, date: str) -> Iterator[list[Cell]]:
-    """The changes before a settled day, by the folder that has its files."""
-    return (change_row(date, item) for item in items_of_day(path))
-
-
 def items_of_day(path: Path) -> Iterator[Item]:
-    """The same as they were handed in."""
+    """The changes before a settled day as they were handed in, by the folder that has its files."""
     filed = handed_journal.read_journal(path / FILES["handed"])
     paths = {kind: path / FILES[kind] for kind in (CHANGES, EDITS)}
     left = {kind: handed_files.items_of_text(own, kind, files.bytes_in(own)) for kind, own in paths.items()}
