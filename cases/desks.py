@@ -12,7 +12,7 @@ from dataclasses import dataclass, field
 from pathlib import Path
 from typing import Any, cast
 
-from harness import Said
+from harness import TOP, Said
 from reread import FORBIDDEN, Attributes, Page, named
 
 from registry_tools.desk import app
@@ -22,7 +22,9 @@ from registry_tools.desk.gate import Served
 HOST = "127.0.0.1:8424"
 # What no page says: commands, their options, and paths of the disk. Documents tell of commands; and what the trials
 # type into forms is shown as it was typed.
-OF_COMMANDS = re.compile(r".{0,60}(?:(?<![-\w])--[a-z]|\./day |/dev/shm/|/tmp/|[A-Z]\.md\b).{0,60}")
+OF_COMMANDS = re.compile(
+    r".{0,60}(?:(?<![-\w])--[a-z]|\./day |/dev/shm/|/tmp/|" + re.escape(f"{TOP}/") + r"|[A-Z]\.md\b).{0,60}"
+)
 DOCUMENTS, TYPED = ("/rules.html", "/formats.html"), ("/tmp/x",)
 # The places where a page said so, by the first line of its request.
 said_of_commands: dict[str, str] = {}

@@ -51,22 +51,17 @@ POST: dict[str, Callable[..., Any]] = {
 OF_LOOKING = {"/name", "/audit/begin", "/send/begin"}
 
 
-class Request(flask.Request):
-    """A request whose form is no larger than it has to be. (Some versions of Flask know no word for it.)"""
-
-    max_form_memory_size = MOST_FORM
-
-
 def make(served: Served) -> flask.Flask:
     """The application of a desk."""
     app = flask.Flask("desk", root_path=str(Path(__file__).parent), static_folder=None)
-    app.request_class = Request
+    # (some versions of Flask have no setting for the size of a form)
+    limited: Any = type("Request", (flask.Request,), {"max_form_memory_size": MOST_FORM})
+    app.request_class = limited
     # (cookies know no ports: another desk has another one)
     app.config.update(
         PATHS=(str(served.path), str(served.jobs.private)), SECRET_KEY=secrets.token_bytes(32),
-        MAX_CONTENT_LENGTH=MOST_BYTES, MAX_FORM_MEMORY_SIZE=MOST_FORM,
-        SESSION_COOKIE_NAME=f"desk-{served.host.rpartition(':')[2]}", SESSION_COOKIE_HTTPONLY=True,
-        SESSION_COOKIE_SAMESITE="Strict",
+        MAX_CONTENT_LENGTH=MOST_BYTES, SESSION_COOKIE_NAME=f"desk-{served.host.rpartition(':')[2]}",
+        SESSION_COOKIE_HTTPONLY=True, SESSION_COOKIE_SAMESITE="Strict",
     )  # fmt: skip
     # (the gate stands before all pages, also those that are not there)
     app.before_request(functools.partial(gate.let_in, served))
@@ -92,9 +87,12 @@ def shown_now(served: Served, view: Callable[..., Any], **more: Any) -> Any:
 
 
 def changed(served: Served, view: Callable[..., Any]) -> Any:
-    """What a form does that changes something; a desk that only looks refuses it."""
+    """What a form does that changes something: once, also if it is sent again. A desk that only looks refuses it."""
     if served.is_look and flask.request.path not in OF_LOOKING:
         return gate.said(403, "This desk shows all, and changes nothing.")
+    number = posts.form("once")
+    if number in served.jobs.jobs:
+        return flask.redirect(f"/jobs/{number}", 303)
     flask.g.state = served.reading.state()
     return view(served)
 
@@ -106,11 +104,9 @@ def failed(served: Served, error: Exception) -> Any:
     if isinstance(error, OSError):
         name = Path(str(error.filename or "the folder")).name
         return gate.said(500, f"{name}: it cannot be read or written: {error.strerror or 'for a reason not known'}")
-    if flask.request.method == "POST":
-        back = posts.way_back()
-    else:
-        is_typed = flask.request.path in SECTIONS and flask.request.args and shown.TYPED not in flask.request.args
-        back = shown.address(typed=1) if is_typed else ""
+    asked = flask.request
+    is_typed = asked.path in SECTIONS and asked.args and shown.TYPED not in asked.args
+    back = posts.way_back() if asked.method == "POST" else shown.address(typed=1) if is_typed else ""
     return gate.said(409 if isinstance(error, FileFault) else 400, str(error), back=back)
 
 
@@ -118,7 +114,7 @@ def dress(app: flask.Flask, served: Served) -> None:
     """What all templates know."""
     sections = {path: name for path, name in SECTIONS.items() if not (served.is_look and path in OF_CHANGES)}
     app.jinja_env.globals.update(
-        sections=sections, is_look=served.is_look, office=served.path.name,
+        sections=sections, is_look=served.is_look, of_looking=OF_LOOKING, office=served.path.name,
         token=lambda: flask.session["token"], once=lambda: secrets.token_hex(8), state=lambda: flask.g.state,
         who=lambda: gate.known_name(served), says_name=not served.who and not served.header,
         has_leftovers=served.reading.has_leftovers, apart=beside.apart,

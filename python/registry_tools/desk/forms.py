@@ -1,5 +1,6 @@
 """What forms offer, and what they say: of one instruction a table with one row, as a spreadsheet would save it; of a
 change by hand the words of ./day change. What is right of it, the commands look at."""
+import contextlib
 import csv
 import io
 import itertools
@@ -68,21 +69,15 @@ OF_NEW = [
 ]  # fmt: skip
 
 
-# One instruction.
-
-
 def instruction_fields(own: Reading, act: str) -> list[Field]:
     """What the form of an instruction asks for."""
-    proposed: list[object] = [OTHER]
-    try:
+    now: object = OTHER
+    proposed = [now]
+    # (where the next day cannot be made, its own page says why)
+    with contextlib.suppress(WordsFault):
         day = own.text_of_next().head
-        days = [date for date in day.working_days if date != day.date]
-        before, behind = ([date for date in days if is_so(date)] for is_so in (day.date.__gt__, day.date.__lt__))
-        proposed = [*before[-BEFORE:], day.date, *behind[:BEHIND], OTHER]
-        now: object = day.date
-    except WordsFault:
-        # (the next day cannot be made: its own page says why)
-        now = OTHER
+        before, behind = ([*filter(is_so, day.working_days)] for is_so in (day.date.__gt__, day.date.__lt__))
+        now, proposed = day.date, [*before[-BEFORE:], day.date, *behind[:BEHIND], OTHER]
     columns = sheets.columns_of_act(act)
     return [
         Field("proposed", label("proposed"), now, proposed),
@@ -93,8 +88,9 @@ def instruction_fields(own: Reading, act: str) -> list[Field]:
     ]  # fmt: skip
 
 
-def table_of_instruction(said: Said) -> str:
-    """The table that the form of an instruction says. Raises WordsFault if it says no act."""
+def rows_of_instruction(said: Said) -> bytes:
+    """The rows of the table that the form of an instruction says; one with something wrong as it is, so that it is
+    told. Raises WordsFault if it says no act."""
     act = said.get("act", "")
     if act not in faults.ACT_WORDS:
         raise WordsFault("no act was chosen")
@@ -105,17 +101,9 @@ def table_of_instruction(said: Said) -> str:
     filled = [name for name in columns if cells[name] or name in sheets.PROPOSAL]
     stream = io.StringIO()
     csv.writer(stream, lineterminator="\n").writerows([filled, [cells[name] for name in filled]])
-    return stream.getvalue()
-
-
-def rows_of_typed(table: str) -> bytes:
-    """The rows of a table that was typed; one with something wrong as it is, so that it is told."""
-    content = table.encode("utf-8", "replace")
+    content = stream.getvalue().encode("utf-8", "replace")
     made = importing.imported(read_content("typed", content), False, None)
     return content if made.wrong else text_of_rows(made.rows)
-
-
-# A change by hand.
 
 
 def account_fields(block: Block, periods: int) -> Iterator[Field]:
@@ -159,8 +147,7 @@ def rule_fields(day: DayText) -> Iterator[Field]:
 
 
 def words_of_change(said: Said, own: Reading) -> Iterator[str]:
-    """The words of ./day change that a form says: of what differs from what is there. Raises WordsFault if there is no
-    such account."""
+    """The words of ./day change for what a form says otherwise than it is. WordsFault if there is no such account."""
     day, of, number = own.text_of_next(), said.get("of", ""), said.get("account", "")
     fields: Iterable[Field] = rule_fields(day) if of == "rules" else ()
     if of == "account":

@@ -16,8 +16,7 @@ from registry_tools.errors import WordsFault
 from registry_tools.office import people
 from registry_tools.office.words import one_line
 
-# Nothing is fetched from elsewhere, no script runs, no other page shows a page of the desk in itself, and nobody keeps
-# one.
+# Nothing is fetched from elsewhere, no script runs, no other page has one of the desk in itself, and nobody keeps one.
 HEADERS = {
     "Content-Security-Policy": (
         "default-src 'none'; style-src 'self'; form-action 'self'; base-uri 'none'; frame-ancestors 'none'"

@@ -37,8 +37,6 @@ MADE, PREFIX, LOCK = "made", "day-desk-", "lock"
 # The commands whose status says what they found, and not that they did nothing.
 FINDING = ("hand-in", "audit", "try", "status")
 NOTHING = "Nothing was done."
-
-
 Started = subprocess.Popen[bytes]
 
 
@@ -67,10 +65,6 @@ class Job:
         # (as bytes: reading a text would make line ends of what begins a line of progress)
         text = (self.out / stream).read_bytes().decode("utf-8", "replace")
         return [line for line in (written.split(PROGRESS)[-1] for written in text.split("\n")) if line.strip()]
-
-    def progress(self) -> str:
-        """The last line that it wrote to standard error."""
-        return next(reversed(self.said("stderr")), "")
 
     def outcome(self) -> str:
         """What came of it, in a sentence."""

@@ -1,4 +1,7 @@
 """The pages of the day's work: today, what is handed in, the next day, a change by hand, closing, and the days."""
+import contextlib
+import itertools
+import re
 from collections import Counter
 from typing import Any, Callable, Iterator, Mapping, Sequence
 
@@ -29,6 +32,7 @@ from registry_tools.sheets import form
 from registry_tools.texts.books import Sums, sums_of, sums_told
 from registry_tools.texts.in_words import grouped, instruction_in_words
 
+DAYS = ["Day", "Who", "At", "Records", "Settled by", "Released"]
 TAKEN = ["Place", "What", "Who took it back", "At", "Why"]
 HANDED_IN = ["Place", "What", "File or reason", "Who"]
 WAITING = ["Due", "Record", "Instruction"]
@@ -57,22 +61,17 @@ def today(served: Served) -> Any:
         (str(w.due or "no due day in the calendar"), w.record, instruction_in_words(w.instruction))
         for w in waits_of(office)
     ]
+    new: list[Looked] = []
+    # (where the next day cannot be made, its own page says why)
+    with contextlib.suppress(WordsFault):
+        new = [tried for tried in own.tried(None)[1] if tried.is_new] if items or waits else []
     return show_page(
         "today", "Today", last=last, is_released=office.journal.is_released(), items=items, waits=waits,
         missed=due.missed_days(office), taken=[*map(row_of_taken, taken.of_next(handed_in))], holder=own.holder(),
         coming=due.next_dates(office, MOST_COMING), faults=[*office.changed_files(last)] if last else [],
-        new=new_of(own) if items or waits else [], seconds=[*awaited.all_waiting(office, handed_in)],
+        new=new, seconds=[*awaited.all_waiting(office, handed_in)],
         forged=approvals.all_approvals(office).faults, dates=own.dates(), doubts=due.doubts_of_last(office),
     )  # fmt: skip
-
-
-def new_of(own: Reading) -> list[Looked]:
-    """What has another outcome than at the last look."""
-    try:
-        return [tried for tried in own.tried(None)[1] if tried.is_new]
-    except WordsFault:
-        # (the next day cannot be made: its own page says why)
-        return []
 
 
 def hand_in(served: Served) -> Any:
@@ -144,7 +143,9 @@ def close(served: Served) -> Any:
     """The page that asks whether the next day is settled."""
     own, why, outcome_of = served.reading, "", None
     dates, settler = own.dates(), settler_in_words(own.office().settings.program)
-    engines = [("", f"by {settler}, and compared with the second answer")] if settler else []
+    # (by its name alone: where a program lies on the disk is nothing for a page)
+    named = re.sub("(the program )?.*/", r"\1", settler)
+    engines = [("", f"by {named}, and compared with the second answer")] if settler else []
     date = asked("other") or asked("date") or str(dates[0])
     try:
         outcome_of, left = own.closing(date)
@@ -162,16 +163,12 @@ def close(served: Served) -> Any:
 
 def totals_of(before: Mapping[str, Sums], after: Mapping[str, Sums]) -> Markup:
     """The sums over all accounts before and after something is done."""
-    pairs = [
-        (kind, name, getattr(before[kind], name), getattr(after[kind], name))
-        for kind in rules.KINDS for name in ("held", "surrendered", "deleted")
-    ]  # fmt: skip
-    rows = [(*of, grouped(old), grouped(new), f"{new - old:+,}" if new != old else "") for *of, old, new in pairs]
+    rows = []
+    for kind, name in itertools.product(rules.KINDS, ("held", "surrendered", "deleted")):
+        old, new = (getattr(sums[kind], name) for sums in (before, after))
+        rows.append((kind, name, grouped(old), grouped(new), f"{new - old:+,}" if new != old else ""))
     columns = ["Kind", "What", "Before", "After", "Difference"]
     return sorted_table("Totals", columns, rows, columns[2:], name="totals-")
-
-
-# Days.
 
 
 def day_rows(served: Served) -> list[tuple[Any, ...]]:
@@ -185,9 +182,6 @@ def days(served: Served) -> Any:
     office, rows = served.reading.office(), day_rows(served)
     return show_page("days", "Days", rows=rows, last=office.last(), is_released=office.journal.is_released(),
                      columns=DAYS, shown_row=lambda row: (link(f"/days/{row[0]}", row[0]), *row[1:]))  # fmt: skip
-
-
-DAYS = ["Day", "Who", "At", "Records", "Settled by", "Released"]
 
 
 def undo(served: Served) -> Any:
@@ -255,20 +249,18 @@ def day(served: Served, word: str) -> Any:
 
 def parts_of(settled: Settled, own: Reading) -> Iterator[Markup]:
     """What stands above the log."""
+    book = settled.rulebook
     refused = [
-        (settled.rulebook.check_link(code), len(logged), settled.rulebook.words(settled.rulebook.checks[code].advice))
+        (book.check_link(code), len(logged), book.words(book.checks[code].advice))
         for code, logged in settled.refused().items()
     ]
+    gone = [*map(row_of_taken, taken.of_day(own.office(), settled.head.date))]
     yield summary.lead(settled)
     if settled.log:
         yield summary.acts_table(settled)
-    if refused:
-        yield sorted_table("Refused", ["Check", "How many", "What to do"], refused, ["How many"], name="why-")
-    if settled.waiting:
-        yield sorted_table("Waiting", summary.WAITING_COLUMNS, summary.waiting_rows(settled), name="waits-")
-    gone = [*map(row_of_taken, taken.of_day(own.office(), settled.head.date))]
-    if gone:
-        yield sorted_table("Taken back before", TAKEN, gone, ["Place"], name="taken-")
+    yield sorted_table("Refused", ["Check", "How many", "What to do"], refused, ["How many"], name="why-")
+    yield sorted_table("Waiting", summary.WAITING_COLUMNS, summary.waiting_rows(settled), name="waits-")
+    yield sorted_table("Taken back before", TAKEN, gone, ["Place"], name="taken-")
     yield from (*summary.totals_parts(settled), tag("h2", "Changed by hand"))
     by_hand = own.by_hand(settled.head.date)
     yield from [paragraph("This is the first day.")] if by_hand.rows is None else by_hand_parts(settled, by_hand)

@@ -1,5 +1,4 @@
-"""The forms that ask for a change: each is looked at, and its yes starts a command with the state that the form was
-made of."""
+"""The forms that ask for a change: each is looked at; its yes starts a command that is told the state of the form."""
 import re
 from typing import Any
 
@@ -56,9 +55,9 @@ def do(served: Served, command: str, *more: str, upload: str = "", makes: bool =
     return begin(served, command, *words, seen=state, upload=upload, makes=makes)
 
 
-def do_with_why(served: Served, command: str, *more: str, upload: str = "") -> Any:
+def do_with_why(served: Served, command: str, *more: str) -> Any:
     """The same, with the reason that the form gives. Raises WordsFault if it gives none."""
-    return do(served, command, f"--why={one_line('why', form('why'))}", *more, upload=upload)
+    return do(served, command, f"--why={one_line('why', form('why'))}", *more)
 
 
 def begin(served: Served, command: str, *words: str, seen: str = "", upload: str = "", makes: bool = False) -> Any:
@@ -74,9 +73,6 @@ def name(served: Served) -> Any:
     return flask.redirect("/", 303)
 
 
-# Handing in.
-
-
 def uploaded(served: Served) -> str:
     """The name of a new upload in the private folder, with the files of the form: they wait there for a yes."""
     place = served.jobs.new_upload()
@@ -87,13 +83,11 @@ def uploaded(served: Served) -> str:
 
 
 def look(served: Served) -> Any:
-    """Shows what would come of files, or of one instruction, with a way back to the form that has what was typed.
-    Raises WordsFault if there is none."""
+    """Shows what would come of files or an instruction, and leads back to what was typed. WordsFault if it is none."""
     place, typed = form("place") or uploaded(served), {}
     if form("act"):
-        table = forms.table_of_instruction(flask.request.form)
-        path = served.jobs.place_for(served.jobs.private / place, looks.TYPED)
-        path.write_bytes(forms.rows_of_typed(table))
+        rows = forms.rows_of_instruction(flask.request.form)
+        served.jobs.place_for(served.jobs.private / place, looks.TYPED).write_bytes(rows)
         typed = {name: form(name)[:LONGEST_FIELD] for name in flask.request.form if name not in OF_FORM}
     paths, reading, dates = served.jobs.upload(place), served.reading, form("dates")
     if not paths:
@@ -125,8 +119,6 @@ def meant_again(count: int) -> list[tuple[int, int]]:
 def take(served: Served) -> Any:
     """Has the files of an upload handed in."""
     place = form("place")
-    if once() in served.jobs.jobs:
-        return do(served, "hand-in")
     files = [word_of(path.name) for path in served.jobs.upload(place)]
     more = [f"--again={files[own]}:{line}" for own, line in meant_again(len(files))]
     more += [f"--dates={form('dates')}"] if form("dates") else []
@@ -139,9 +131,6 @@ def take_back(served: Served) -> Any:
     if not places or not all(map(PLACE.fullmatch, places)):
         raise WordsFault("no row was chosen")
     return do_with_why(served, "take-back", "--", *places)
-
-
-# Changes by hand, and names.
 
 
 def look_at_change(served: Served) -> Any:
@@ -163,9 +152,7 @@ def fields_of_form() -> list[tuple[str, str]]:
 
 def make_change(served: Served) -> Any:
     """Has a change by hand made."""
-    is_again = once() in served.jobs.jobs
-    words = [] if is_again else forms.words_of_change(flask.request.form, served.reading)
-    return do_with_why(served, "change", "--yes", *words)
+    return do_with_why(served, "change", "--yes", *forms.words_of_change(flask.request.form, served.reading))
 
 
 def look_at_names(served: Served) -> Any:
@@ -189,12 +176,7 @@ def words_of_names(served: Served, place: str) -> list[str]:
 
 def give_names(served: Served) -> Any:
     """Has the names given that were looked at."""
-    place = form("place")
-    words = [] if once() in served.jobs.jobs else words_of_names(served, place)
-    return do_with_why(served, "label", *words)
-
-
-# Days.
+    return do_with_why(served, "label", *words_of_names(served, form("place")))
 
 
 def settle(served: Served) -> Any:
@@ -221,9 +203,6 @@ def approve(served: Served) -> Any:
     if command not in MAY_WAIT:
         raise WordsFault(NOT_WHOLE)
     return do(served, "approve", f"--date={date}", "--", command)
-
-
-# What changes nothing, and takes long.
 
 
 def audit(served: Served) -> Any:

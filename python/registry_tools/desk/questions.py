@@ -1,5 +1,4 @@
-"""The pages that answer questions: accounts and names, compliance, what was done over all days, the journal, audits,
-packages, and what commands answered."""
+"""The pages of questions: accounts, names, compliance, days together, the journal, audits, packages and answers."""
 import io
 import tempfile
 import zipfile
@@ -29,6 +28,7 @@ from registry_tools.pages.rulebook import document_parts
 from registry_tools.pages.settled import WAITS, Settled, joined_words, outcome_in_words, record_in_words
 from registry_tools.questions import compliance as answers
 from registry_tools.questions import find as finding
+from registry_tools.questions.history import in_folder as rows_of
 from registry_tools.second import faults, rules
 from registry_tools.sheets import form
 from registry_tools.sheets.writing import Written, write_workbook
@@ -40,8 +40,8 @@ WORKBOOK = "application/vnd.openxmlformats-officedocument.spreadsheetml.sheet"
 # Where somebody goes on behind a command.
 BEHIND = dict.fromkeys(("hand-in", "change", "take-back"), ("/next", "To the next day"))
 BEHIND["label"] = ("/names", "To the names")
-
-# Accounts.
+# What is told of an operator.
+COLUMNS = ["Account", "Holder", "Surrendered", "Emissions", "Surrendered of emissions", "Figure now", "Verdict"]
 
 
 def accounts(served: Served) -> Any:
@@ -75,7 +75,7 @@ def account(served: Served, number: int) -> Any:
     own = served.reading
     return show_page(
         "account", f"Account {number}", own=parts, number=number,
-        history=[*map(row_of_history, own.history(number))] if asked("history") else None,
+        history=[*map(row_of_history, rows_of(own.asked(account=number)))] if asked("history") else None,
         shown_row=lambda row: (*row[:3], own.outcome(str(row[0]), row[1], row[3]), *row[4:]),
     )  # fmt: skip
 
@@ -97,29 +97,21 @@ def names(served: Served) -> Any:
     return show_page("names", "Names", rows=sorted(rows, key=lambda row: (row[0], int(row[1]))), kinds=KINDS)
 
 
-# Compliance.
-
-
 def compliance(served: Served) -> Any:
     """The page of compliance for a year. Raises WordsFault if no day is settled."""
-    settled = served.reading.settled()
+    own, settled = served.reading, served.reading.settled()
     if settled is None:
         raise WordsFault("no day is settled yet")
-    year = number_asked("year") or answers.last_year_over(settled.head)
-    word = asked("deadline")
-    deadline = date_of("the deadline", word) if word else served.reading.office().settings.due.surrender_of(year)
-    state, key = served.reading.office().journal.last_line, ("standings", year)
-    standings = answers.standings(settled.day, settled.report, year)
-    rows = served.reading.once(key, state, lambda: sorted(standings, key=standing.order))
+    year, word = number_asked("year") or answers.last_year_over(settled.head), asked("deadline")
+    office, standings = own.office(), answers.standings(settled.day, settled.report, year)
+    deadline = date_of("the deadline", word) if word else office.settings.due.surrender_of(year)
+    rows = own.once(("standings", year), office.journal.last_line, lambda: sorted(standings, key=standing.order))
     return show_page(
         "compliance", f"Compliance for {year}", year=year, rows=[*map(row_of_standing, rows)], columns=COLUMNS,
         counts=standing.counts_table(rows) if rows else "", until=month.until_in_words(settled.head.date, deadline),
         missing=sum(own.missing or 0 for own in rows), date=settled.head.date,
         shown_row=lambda row: cells_of_standing(settled, row[-1]),
     )  # fmt: skip
-
-
-COLUMNS = ["Account", "Holder", "Surrendered", "Emissions", "Surrendered of emissions", "Figure now", "Verdict"]
 
 
 def row_of_standing(own: answers.Standing) -> tuple[Any, ...]:
@@ -136,18 +128,14 @@ def cells_of_standing(settled: Settled, own: answers.Standing) -> Sequence[Any]:
 
 def month_page(served: Served) -> Any:
     """Several days on one page, as ./day month makes it."""
-    office, said = served.reading.office(), {name: asked(name) for name in ("from", "to", "deadline")}
-    dates = [own.date for own in reversed(office.journal.filed())]
-    if not dates:
+    last = served.reading.office().last()
+    if last is None:
         raise WordsFault("no day is settled yet")
     # (without a word, the month of the last day)
-    begin, end = said["from"] or str(dates[0].replace(day=1)), said["to"] or str(dates[0])
-    deadline = said["deadline"] or None
-    title, count, parts = served.reading.month(begin=begin, end=end, year=number_asked("year"), deadline=deadline)
+    begin, end = asked("from") or str(last.date.replace(day=1)), asked("to") or str(last.date)
+    asked_for = {"year": number_asked("year"), "deadline": asked("deadline") or None}
+    title, count, parts = served.reading.month(begin=begin, end=end, **asked_for)
     return show_page("month", title, count=count, own=parts, begin=begin, end=end)
-
-
-# What was done.
 
 
 def filters() -> dict[str, Any]:
@@ -161,19 +149,15 @@ def filters() -> dict[str, Any]:
     }  # fmt: skip
 
 
-def found(served: Served) -> list[tuple[Any, ...]]:
-    """What the filters of the page find, as rows of texts."""
-    own, said = served.reading, filters()
-    state = own.state_of_names()
-    rows = own.once(("found", *said.values()), state, lambda: [*map(row_of_log, own.found(**said)[0])])
-    return [row for row in rows if row[5] != WAITS] if asked("no_waiting") else rows
-
-
 def find(served: Served) -> Any:
     """The page of log rows over all days."""
-    rows = found(served) if flask.request.args and TYPED not in flask.request.args else None
+    own, rows = served.reading, None
+    if flask.request.args and TYPED not in flask.request.args:
+        said, state = filters(), own.state_of_names()
+        rows = own.once(("found", *said.values()), state, lambda: [*map(row_of_log, own.found(**said)[0])])
+        rows = [row for row in rows if row[5] != WAITS or not asked("no_waiting")]
     query = flask.request.query_string.decode("ascii", "replace")
-    return show_page("find", "Find", rows=rows, query=query, shown_row=lambda row: cells_of_log(served.reading, row))
+    return show_page("find", "Find", rows=rows, query=query, shown_row=lambda row: cells_of_log(own, row))
 
 
 def row_of_log(own: LogRow) -> tuple[Any, ...]:
@@ -233,9 +217,6 @@ def journal(served: Served) -> Any:
     by_hand = [(day, own.part.at, own.part.who, own.part.name, item_in_words(own)) for day, own in items]
     gone = [(day, *row_of_taken(own)) for day, own in taken.of_all(office)]
     return show_page("journal", "Journal", events=events, by_hand=[*reversed(by_hand)], taken=[*reversed(gone)])
-
-
-# What takes long.
 
 
 def audit(served: Served) -> Any:

@@ -26,7 +26,7 @@ from registry_tools.pages.html import Frame, Markup, joined
 from registry_tools.pages.rulebook import Rulebook
 from registry_tools.pages.settled import WAITS, ByHand, Settled, by_hand_before
 from registry_tools.pages.statement import Statement
-from registry_tools.questions import find, history
+from registry_tools.questions import find
 from registry_tools.texts.day_text import DayText
 from registry_tools.texts.pending import read_pending, waiting_before
 from registry_tools.texts.report import LogRow
@@ -148,8 +148,7 @@ class Reading:
     def by_hand(self, date: datetime.date) -> ByHand:
         """What people changed before a settled day."""
         office = self.office()
-        place = next(place for place, event in enumerate(office.journal.filed()) if event.date == date)
-        filed = office.journal.filed()[max(place - 1, 0) : place + 1]
+        filed = [event for event in office.journal.filed() if event.date <= date][-2:]
 
         def work() -> ByHand:
             *before, own = past.read_all([past.pair_of(office, event) for event in filed])
@@ -173,10 +172,6 @@ class Reading:
         known = {"opened": office, "office": None, "pairs": None, "begin": None, "end": None}
         return argparse.Namespace(**{**known, **more})
 
-    def history(self, number: int) -> list[list[Any]]:
-        """All that became of an account, as the cells of rows."""
-        return [*history.in_folder(self.asked(account=number))]
-
     def found(self, **filters: Any) -> tuple[list[LogRow], set[int]]:
         """The log rows that a question asks for, and the accounts that it means, if it names some."""
         said = self.asked(**filters)
@@ -196,10 +191,8 @@ class Reading:
         office = self.office()
         handed_in, last = office.handed_in(), office.last()
         first = composing.settlement_date(None, office, handed_in)
-        if last is None:
-            return [first]
-        later = [date for date in composing.working_days(office, last, handed_in) if date > last.date]
-        return [first, *(date for date in later if date != first)][:MOST_DATES]
+        later = composing.working_days(office, last, handed_in) if last else []
+        return [first, *(date for date in later if last and last.date < date != first)][:MOST_DATES]
 
     def of_next(self, name: str, date: datetime.date, work: Callable[[], T]) -> T:
         """What was worked out of the next day, if it is that of this date, or of the last one, as the folder is now."""
@@ -232,12 +225,10 @@ class Reading:
     def closing(self, word: str | None) -> tuple[close.Outcome, list[str]]:
         """What would come of it if the next day was closed now, by the second answer, and what is left for later."""
         office, next_day = self.office(), self.next_day(word)
-        left = close.left_for_later(office.handed_in(), next_day.date)
-
-        def work() -> close.Outcome:
-            return close.outcome_of_day(close.settle(office, next_day, by_second=True))
-
-        return self.of_next("closing", next_day.date, work), left
+        outcome = self.of_next(
+            "closing", next_day.date, lambda: close.outcome_of_day(close.settle(office, next_day, by_second=True))
+        )
+        return outcome, close.left_for_later(office.handed_in(), next_day.date)
 
 
 def looks_of(path: Path) -> str:

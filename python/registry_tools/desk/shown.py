@@ -56,9 +56,6 @@ def address_of(path: str, args: dict[str, object]) -> str:
     return urllib.parse.quote(path) + (f"?{query}" if query else "")
 
 
-# What instructions and rows are shown by.
-
-
 def outcome(own: trial.Looked) -> object:
     """The outcome of an instruction; strong, if it is refused."""
     return tag("strong", own.said()) if own.is_refused else own.said()
@@ -68,9 +65,6 @@ def row_of_taken(own: taken.TakenBack) -> tuple[object, ...]:
     """What was taken back: its place, what it was or, behind the close, its file, who did it, when and why."""
     what = item_in_words(own.item) if own.item else f"a row of {own.part.name}" if own.part else ""
     return own.taken.place, what, own.taken.who, own.taken.at, own.taken.why
-
-
-# Tables.
 
 
 def sort_key(cell: object) -> tuple[bool, int, str]:
@@ -89,10 +83,10 @@ def sorted_table(
     name: str = "",
     empty: str = "",
 ) -> Markup:
-    """A table, or if it has no row the words that say so; `show` makes the cells of the rows that are shown. Where a
-    page has several, each but the first has a name, which begins its words of the address."""
-    if empty and not rows:
-        return paragraph(empty)
+    """A table; without rows the words that say so, if there are some. `show` makes the cells of rows that are shown.
+    Where a page has several, each but the first has a name, which begins its words of the address."""
+    if not rows:
+        return paragraph(empty) if empty else joined()
     sort, page, has_links = f"{name}sort", f"{name}page", flask.request.method != "POST"
     word = flask.request.args.get(sort, "")
     by = word.removeprefix("-")

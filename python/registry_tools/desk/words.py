@@ -68,9 +68,8 @@ def local(at: str) -> str:
 
 
 def seen(text: str, office: str, private: str) -> str:
-    """The text of a page as it goes out. Messages name files by their paths, times in UTC, and words of commands: here
-    files of the folder begin in it, uploads have their names, times are of this machine, and a page is named where a
-    command was."""
+    """The text of a page as it goes out, without paths and commands: files of the folder begin in it, uploads have
+    their names, times are of this machine, and a page is named where a command was."""
     text = re.sub(f"{re.escape(markup(office))}/|{re.escape(markup(private))}/[0-9a-f]+/", "", text)
     text = re.sub(f"(?:--office )?{re.escape(markup(office))}", "the folder", text)
     for what, here in AT_THE_DESK.items():
