@@ -7,7 +7,8 @@ from pathlib import Path
 import package  # noqa: F401
 from registry_tools.man import as_roff
 
-PROTOTYPE = re.compile(r"^(?:struct registry_answer|uint32_t|size_t|const char \*)\s*registry_\w+\([^;]*\);", re.MULTILINE)
+RETURNED = r"struct registry_answer|uint32_t|size_t|const char \*"
+PROTOTYPE = re.compile(rf"^(?:{RETURNED})\s*registry_\w+\([^;]*\);", re.MULTILINE)
 # What of docs/FORMATS.md is about the text, and what about commands.
 OF_TEXT = ("Rows and fields", "The day text", "The report", "The plan", "The statement", "The figures", "Faults")
 INLINE = re.compile(r"`([^`]+)`|!?\[([^\]]*)\]\([^)]*\)|\*\*([^*]+)\*\*")

@@ -14,6 +14,7 @@ import contextlib
 import datetime
 import getpass
 import os
+import re
 import sys
 from dataclasses import dataclass
 from pathlib import Path
@@ -32,6 +33,8 @@ PUT_BACK = "put it back as it was filed: ./day mend DATE may make it again, or a
 LABEL_BY_HAND = "label --by-hand --why WORDS"
 # The variable that names the folder for whoever stands in none, and names none.
 VARIABLE = "REGISTRY_OFFICE"
+# What `state_of` writes.
+STATE = re.compile(r"([^.]*)\.([0-9]{1,9})\.([0-9]{1,9})\.[0-9a-f]*")
 # How the option that names it is explained.
 WHERE = f"the folder of days; without it, the one in which the command is run, or that of {VARIABLE}"
 
@@ -220,7 +223,10 @@ def state_of(office: Office) -> str:
 
 def done_since(office: Office, state: str) -> Iterator[str]:
     """What was done behind a state of the folder that somebody has seen, in words."""
-    line, parts, taken, _ = state.split(".")
+    said = STATE.fullmatch(state)
+    if said is None:
+        raise WordsFault(f"--seen {shown(state)} is no state of a folder, and nothing was done: look once more")
+    line, parts, taken = said.groups()
     there, lines = office.handed_in(), [event.line for event in office.journal.events]
     for event in office.journal.events[lines.index(line) + 1 if line in lines else 0 :]:
         yield f"{event.date} was {event.event} by {event.who}{f': {event.why}' if event.why else ''}"

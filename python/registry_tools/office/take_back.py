@@ -57,7 +57,7 @@ def chosen(handed_in: HandedIn, said: argparse.Namespace) -> list[Item]:
     """What the words name. Ends the command if nothing is left of it, or if a place can't be taken back."""
     parts = [*parts_of(handed_in, said)]
     there = {item.place: item for item in handed_in.items(*handed.KINDS)}
-    asked = places_of(handed_in, said.places, there) if said.places else [*there]
+    asked = asked_places(handed_in, said.places, there) if said.places else [*there]
     first = [place for place in asked if there[place].part.kind == FIRST]
     if first and said.places:
         raise WordsFault(f"place {first[0]} is an instruction of the first text: ./day init puts in another text")
@@ -83,7 +83,7 @@ def parts_of(handed_in: HandedIn, said: argparse.Namespace) -> Iterator[Part]:
             yield part
 
 
-def places_of(handed_in: HandedIn, words_of_places: list[str], there: dict[int, Item]) -> list[int]:
+def asked_places(handed_in: HandedIn, words_of_places: list[str], there: dict[int, Item]) -> list[int]:
     """The places that words name, each once. Of a range, what is left there."""
     found: dict[int, None] = {}
     for word in words_of_places:

@@ -97,7 +97,7 @@ def waiting_of(path: str | None, last: PastDay) -> list[pending.Waiting]:
     return pending.waiting_before(pending.read_pending(path), last.day, last.report) if path else []
 
 
-def places_of(days: list[DayTold], numbers: list[int]) -> dict[int, int]:
+def places_by_number(days: list[DayTold], numbers: list[int]) -> dict[int, int]:
     """For each account the place of the first day, counted from 0, from which on nobody but its holder of the last day
     had it: what came before is of another holder."""
     places = dict.fromkeys(numbers, 0)
@@ -201,7 +201,7 @@ def run(said: argparse.Namespace) -> int:
         with NewFolder(said.folder) as made:
             for holder, numbers in progress.over(holders.items(), "writing the packages", len(holders), step=1):
                 days = [*source.earlier(numbers), last]
-                places = places_of(days, numbers)
+                places = places_by_number(days, numbers)
                 made.write(f"{holder}.html", letter(settled, [day.told for day in days], holder, places, source.head))
                 for number, place in places.items():
                     made.write(f"{holder}-{number}.csv", statement_from(days[place:], number))

@@ -141,8 +141,8 @@ def workers_page(settled: Settled, files: dict[str, str], path: str, note: str) 
     lead = paragraph(
         f"{count_of(len(records), 'worker', 'workers')} settled {count_of(len(tasks), 'instruction', 'instructions')}. "
         "Workers count from 0. Each owns regions of the book while it settles them, so instructions on common accounts "
-        "are in one lane. A worker that is done with its own regions steals others. Another run may give other lanes, but "
-        "always the same report.",
+        "are in one lane. A worker that is done with its own regions steals others. Another run may give other lanes, "
+        "but always the same report.",
         class_="lead",
     )
     parts = [*shares_parts(tasks, records)] if tasks else []
