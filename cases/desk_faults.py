@@ -290,8 +290,9 @@ def other_in_its_place(folders: Folders, elsewhere: Path) -> Iterator[tuple[str,
         shutil.copytree(elsewhere, office)
         assert Said("take-back", "1", "--why", "a slip", "--who", "ben", "--office", office).status == 0
         begun = plain(office)
-        answer = ana.ask("/close/settle", urllib.parse.urlencode({**form.fields, "second": "1"}).encode())
-        told = "somebody changed the folder after your page was made" in answer.text
+        content = urllib.parse.urlencode({**form.fields, "second": "1"}).encode()
+        answer = ana.ended(ana.ask("/close/settle", content))
+        told = "somebody changed the folder since it was looked at" in answer.text
         yield "another folder in its place", None if told and plain(office) == begun else answer.text
         shutil.rmtree(office)
         elsewhere.rename(office)
