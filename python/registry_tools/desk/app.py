@@ -6,7 +6,8 @@ from pathlib import Path
 from typing import Any, Callable
 
 import flask
-from werkzeug.exceptions import HTTPException
+from werkzeug import formparser
+from werkzeug.exceptions import HTTPException, RequestEntityTooLarge
 from werkzeug.wrappers import Response
 
 from registry_tools.desk import gate, pages, posts, questions, shown, words
@@ -57,6 +58,8 @@ def make(served: Served) -> flask.Flask:
     # (some versions of Flask have no setting for the size of a form)
     limited: Any = type("Request", (flask.Request,), {"max_form_memory_size": MOST_FORM})
     app.request_class = limited
+    # (werkzeug 2.2 raises this for a large field by a name that it forgot to import)
+    setattr(formparser, "RequestEntityTooLarge", RequestEntityTooLarge)
     # (cookies know no ports: another desk has another one)
     app.config.update(
         PATHS=(str(served.path), str(served.jobs.private)), SECRET_KEY=secrets.token_bytes(32),
