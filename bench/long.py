@@ -7,11 +7,12 @@ usage: long.py days|orders|seams|limits|gigabyte [--program PROGRAM] [--workers 
 PROGRAM is out/registry, unless another is named. WORKERS and REFUSALS are the programs bench_workers and
 test_refusals, which `cd crates/NAME && rt run` builds.
 
-days      draws days, of both versions and all acts, damaged ones among them, and some so large that they are read by
-          several parts. Each is settled by one to eight workers on one, two and four processors in turn. Of each second
-          run the threads are held up at random at their start and where they take memory (`delay.c`, which needs a C
-          compiler, `cc`). Every answer must be that of the second answer (`registry_tools`). With
-          WORKERS each day is also settled by workers that are held up at random at the gate.
+days      draws days, of both versions and all acts, damaged ones among them, some so large that they are read by
+          several parts, and some with so many instructions that threads carry them out. Each is settled by one to
+          eight workers on one, two and four processors in turn. Of each second run the threads are held up at random
+          at their start and where they take memory (`delay.c`, which needs a C compiler, `cc`). Every answer must be
+          that of the second answer (`registry_tools`). With WORKERS each day is also settled by workers that are held
+          up at random at the gate.
 orders    draws days, and of each many more, whose instructions are some of its own in another order, one of them
           several times now and then. PROGRAM settles each by one worker and by a drawn number of them, on one, two and
           four processors, and both must write the same. If WORKERS is named, it settles all of them in one process in
@@ -67,6 +68,9 @@ PROCESSORS = (1, 2, 4)
 MORE_DAYS = 63
 # One of so many drawn days grows until it has several parts.
 ONE_GROWS = 25
+# One of so many has so many instructions that threads carry them out, though there are few accounts.
+ONE_IS_FULL = 5
+MANY_INSTRUCTIONS = 1_024
 # So many parts cut a drawn text at each of its accounts and instructions.
 EACH_ROW = 300
 # A text is read by so many numbers of workers, each time with other seams.
@@ -103,9 +107,21 @@ Task = tuple[Words, int, list[bytes]]
 # Drawn texts.
 
 
+def with_many_instructions(rows: list[str]) -> list[str]:
+    """A day whose instructions come again and again, if it has some."""
+    own = [place for place, row in enumerate(rows) if row.startswith("do,")]
+    if not own:
+        return rows
+    first, behind = own[0], own[-1] + 1
+    again = MANY_INSTRUCTIONS // (behind - first) + 1
+    return rows[:first] + rows[first:behind] * again + rows[behind:]
+
+
 def drawn_text(seed: int, chance: Random, is_damaged: bool) -> bytes:
     """A drawn day as bytes, seldom a large one."""
     rows = (damaged_rows if is_damaged else drawn_rows)(seed)
+    if chance.randrange(ONE_IS_FULL) == 0:
+        rows = with_many_instructions(rows)
     if chance.randrange(ONE_GROWS):
         return text_of(rows, seed)
     grown = [row.encode() for row in rows]

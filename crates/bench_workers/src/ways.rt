@@ -4,7 +4,8 @@ use crate::stop::Stop;
 use reg_base::NoMemory;
 use reg_book::{ClosedDay, ClosedParts, Parts, Settled, settle_in_place};
 use reg_regions::{
-    FreePlaces, OwnedRegion, PlaceGate, WorkShift, settle_regions, settle_without_shifts,
+    FreePlaces, OwnedRegion, PlaceGate, WorkShift, are_allowed, settle_regions,
+    settle_without_shifts,
 };
 use reg_tasks::Naming;
 use reg_text::{DayInput, DayParts, LEAST_PART, read_day, read_day_in_lists};
@@ -59,9 +60,12 @@ pub(crate) fn close_in_parts<R: Threads + Sync>(
         rules,
         batch,
     } = read_in_parts(rt, alloc, text, workers)?;
+    if !are_allowed(workers) || batch.base() + 1 != parts.next_record() {
+        return Err(Stop::Input);
+    }
     match settle_without_shifts(rt, alloc, parts, &rules, &batch, workers, &FreePlaces) {
         Ok(closed) => Ok(closed),
-        Err(not_settled) => Err(not_settled.fault.into()),
+        Err(NoMemory) => Err(Stop::Short),
     }
 }
 

@@ -25,7 +25,7 @@ use reg_book::{
     settle_plain,
 };
 use reg_plan::Plan;
-use reg_regions::{FreePlaces, RegionsFault, settle_without_shifts};
+use reg_regions::{FreePlaces, are_allowed, settle_without_shifts};
 use reg_text::{
     DayInput, DayParts, StatementFault, figures_of_parts, plan_text, statement, totals_of_parts,
     write_report_over, write_report_pieces,
@@ -80,7 +80,11 @@ pub(crate) fn make_text<T: Threads + Sync>(
             make_report_in_place(alloc, day, memory.into_text(alloc))
         }
         Command::Settle { workers } => {
-            make_report(rt, alloc, day, memory.into_pieces(alloc), workers)
+            if !are_allowed(workers) {
+                return Err(FrontFault::Workers);
+            }
+            let used = make_report(rt, alloc, day, memory.into_pieces(alloc), workers)?;
+            Ok(used)
         }
         Command::Figures => make_figures(rt, alloc, day, memory.into_text(alloc), threads),
         Command::Plan => {
@@ -106,11 +110,10 @@ fn make_report<T: Threads + Sync>(
     day: DayParts,
     spare: Vec<Vec<u8>>,
     workers: u32,
-) -> Result<Used, FrontFault>
-    requires { day.batch.base + 1 ≡ day.parts.next }
-    ensures { MatchResult result
-        (λ used. (command_fault (Settle workers) day.parts ≡ None) × (text_made used ≡ report_of (day_of_parts day)))
-        (IsCommandFault (Settle workers) day.parts) }
+) -> Result<Used, NoMemory>
+    requires follows { day.batch.base + 1 ≡ day.parts.next }
+    requires workers { may_work workers ≡ true }
+    ensures { IfOk result (λ used. text_made used ≡ report_of (day_of_parts day)) }
 {
     log_is_made_again();
     let DayParts {
@@ -118,7 +121,7 @@ fn make_report<T: Threads + Sync>(
         parts,
         batch,
     } = day;
-    let closed = close_by_workers(rt, alloc, parts, &rules, &batch, workers)?;
+    let closed = settle_without_shifts(rt, alloc, parts, &rules, &batch, workers, &FreePlaces)?;
     let used = spell(rt, alloc, closed, &batch, spare, workers as usize)?;
     Ok(used)
 }
@@ -282,41 +285,15 @@ fn close_day<T: Threads + Sync>(
     alloc: Global,
     day: DayParts,
     threads: u32,
-) -> Result<ClosedParts, FrontFault>
+) -> Result<ClosedParts, NoMemory>
     requires follows { day.batch.base + 1 ≡ day.parts.next }
     requires threads { may_work threads ≡ true }
-    ensures { MatchResult result
-        (λ closed. closed.parts ≡ book_after (day_of_parts day)) (λ fault. fault ≡ front.NoMemory) }
+    ensures { IfOk result (λ closed. closed.parts ≡ book_after (day_of_parts day)) }
 {
     let DayParts {
         rules,
         parts,
         batch,
     } = day;
-    close_by_workers(rt, alloc, parts, &rules, &batch, threads)
-}
-
-// Settles a batch by workers, on the accounts of the book.
-fn close_by_workers<T: Threads + Sync>(
-    rt: &T,
-    alloc: Global,
-    parts: Parts,
-    rules: &Rules,
-    batch: &Batch,
-    workers: u32,
-) -> Result<ClosedParts, FrontFault>
-    requires { batch.now.base + 1 ≡ parts.next }
-    ensures { MatchResult result
-        (λ closed. (may_work workers ≡ true) × (closed.parts ≡ book_after (day_of parts rules.now batch.now))
-        × (closed.replies.items ≡ replies_of (day_of parts rules.now batch.now)))
-        (IsCommandFault (Settle workers) parts) }
-{
-    match settle_without_shifts(rt, alloc, parts, rules, batch, workers, &FreePlaces) {
-        Ok(closed) => Ok(closed),
-        Err(refused) => match refused.fault {
-            RegionsFault::Workers => Err(FrontFault::Workers),
-            RegionsFault::WrongBase { .. } => unreachable!(),
-            RegionsFault::NoMemory => Err(FrontFault::NoMemory),
-        },
-    }
+    settle_without_shifts(rt, alloc, parts, &rules, &batch, threads, &FreePlaces)
 }

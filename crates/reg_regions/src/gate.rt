@@ -7,6 +7,12 @@ pub trait PlaceGate: Sync {
 
     /// It has carried it out. A gate that does not say otherwise does nothing.
     fn leave(&self, _worker: u32, _place: u32) {}
+
+    /// Whether nobody ever waits at it. Then few instructions are carried out by one worker, who is done before another
+    /// has begun. A gate that does not say so may hold a worker until others have come.
+    fn is_open(&self) -> bool {
+        false
+    }
 }
 
 /// A gate that does nothing.
@@ -15,4 +21,8 @@ pub struct FreePlaces;
 
 impl PlaceGate for FreePlaces {
     fn enter(&self, _worker: u32, _place: u32) {}
+
+    fn is_open(&self) -> bool {
+        true
+    }
 }

@@ -33,4 +33,4 @@ pub use instruction::{Indexes, Placed};
 pub use laws::{region_is_as_the_day, regions_are_a_day};
 pub use not_settled::{NotSettled, RegionsFault};
 pub use running::shift::{OwnedRegion, WorkShift};
-pub use settlement::{settle_regions, settle_without_shifts};
+pub use settlement::{are_allowed, settle_regions, settle_without_shifts};

@@ -48,6 +48,9 @@ mod threads;
 pub(crate) mod whole;
 mod worker;
 
+// So many instructions take less time than to start threads.
+const FEW: u32 = 1_024;
+
 /// What workers made of lists of accounts.
 #[derive(Drop)]
 pub(crate) struct Outcome<N> {
@@ -114,13 +117,23 @@ fn new_table(alloc: Global, count: u32) -> Result<(ClaimTable, Seat), NoMemory>
     }
 }
 
-// How many workers there are regions for: one, or all.
-fn busy_workers(deals: &[Deal], workers: u32) -> u32
+// Whether the instructions are so few that one worker has carried them out before another has begun, and nobody waits
+// for a worker.
+fn is_small<G: PlaceGate>(batch: &Batch, gate: &G) -> bool {
+    gate.is_open() && batch.len() < FEW
+}
+
+// How many workers there is something to do for: one, or all.
+fn busy_workers<G: PlaceGate>(batch: &Batch, deals: &[Deal], workers: u32, gate: &G) -> u32
     requires { 1 ≤ workers }
     ensures some { 1 ≤ result }
     ensures few { result ≤ workers }
 {
-    if are_few(deals) { 1 } else { workers }
+    if is_small(batch, gate) || are_few(deals) {
+        1
+    } else {
+        workers
+    }
 }
 
 // Whether fewer than two regions have instructions.
@@ -186,7 +199,7 @@ fn settle_by_workers<C: Cutting + Send + Sync, N: Notes + Send, R: Threads + Syn
 {
     step_laws();
     let count = lists.len() as u32;
-    let busy = busy_workers(&deals, workers);
+    let busy = busy_workers(batch, &deals, workers, gate);
     let regions = make_regions::<C>(alloc, deals, lists)?;
     let (yard, owners, passes) = Yard::new(alloc, busy)?;
     let done = run_dealt::<C, Brand, N, R, G>(

@@ -50,7 +50,7 @@ const REGIONS_EACH: u32 = 3;
 ///
 /// If the day can't be dealt out so, as with one worker, or if such instructions are more than three fifths of all,
 /// worker 0, which is the calling thread, carries out all instructions in the order of the batch, and the book has one
-/// list afterwards.
+/// list afterwards. If there are fewer than 1,024 instructions, and the gate is open, it carries out all regions.
 ///
 /// There is a shift for each worker, from worker 0 on, and each place from 1 to the number of instructions is in one
 /// shift, once.
@@ -77,7 +77,7 @@ pub fn settle_regions<R: Threads + Sync, G: PlaceGate>(
     ensures shifts { IfOk result (λ c. AreShiftsOf workers (length batch.now.instructions) c.1.items) }
     ensures back { IfErr result (λ e. e.parts ≡ handed_back e.fault parts) }
 {
-    if !is_allowed(workers) {
+    if !are_allowed(workers) {
         return Err(NotSettled::with_book(RegionsFault::Workers, parts));
     }
     let next = parts.next_record();
@@ -87,10 +87,11 @@ pub fn settle_regions<R: Threads + Sync, G: PlaceGate>(
     Ok(settle_book(rt, alloc, parts, rules, batch, workers, gate)?)
 }
 
-/// The same, but no shift is built.
+/// The same of a batch that begins with the book's next record number, by a number of workers within its limits: so
+/// neither is tested, and there is no other fault than want of memory. No shift is built.
 ///
 /// # Errors
-/// As [`settle_regions`].
+/// `NoMemory` if memory ran out: then the book is gone. All threads have ended.
 pub fn settle_without_shifts<R: Threads + Sync, G: PlaceGate>(
     rt: &R,
     alloc: Global,
@@ -99,27 +100,20 @@ pub fn settle_without_shifts<R: Threads + Sync, G: PlaceGate>(
     batch: &Batch,
     workers: u32,
     gate: &G,
-) -> Result<ClosedParts, NotSettled>
-    ensures closed { MatchResult result
-        (λ closed. (may_work workers ≡ true) × (batch.now.base + 1 ≡ parts.next)
-        × (closed.parts ≡ committed parts (settled_day (day_of parts rules.now batch.now))))
-        (λ e. IsRegionsFault workers parts batch.now e.fault) }
+) -> Result<ClosedParts, NoMemory>
+    requires follows { batch.now.base + 1 ≡ parts.next }
+    requires workers { may_work workers ≡ true }
+    ensures parts { IfOk result
+        (λ closed. closed.parts ≡ committed parts (settled_day (day_of parts rules.now batch.now))) }
     ensures replies { IfOk result
         (λ closed. closed.replies.items ≡ replies_of (day_of parts rules.now batch.now)) }
-    ensures back { IfErr result (λ e. e.parts ≡ handed_back e.fault parts) }
 {
-    if !is_allowed(workers) {
-        return Err(NotSettled::with_book(RegionsFault::Workers, parts));
-    }
-    let next = parts.next_record();
-    if batch.base() + 1 != next {
-        return Err(NotSettled::with_book(RegionsFault::WrongBase { next }, parts));
-    }
     let (closed, _) = settle_book::<NoShift, R, G>(rt, alloc, parts, rules, batch, workers, gate)?;
     Ok(closed)
 }
 
-fn is_allowed(workers: u32) -> bool
+/// Whether so many workers may settle a day: 1 to 8.
+pub fn are_allowed(workers: u32) -> bool
     ensures { result ≡ may_work workers }
 {
     (1..=MOST_WORKERS).contains(&workers)

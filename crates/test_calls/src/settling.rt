@@ -6,7 +6,7 @@ use crate::endings::{Ended, how_ended};
 use crate::stop::Stop;
 use reg_base::{Batch, NoMemory, Rules};
 use reg_book::{ClosedDay, ClosedParts, Parts, SettleFault, settle_in_place, settle_plain};
-use reg_regions::{FreePlaces, settle_regions};
+use reg_regions::{FreePlaces, PlaceGate, settle_regions};
 use reg_tasks::{Context, Unnamed, run_order};
 use reg_text::{DayInput, DayParts, read_day};
 use reg_work::{FreeGate, settle_waves, settle_with};
@@ -211,6 +211,13 @@ fn joined(alloc: Global, closed: ClosedParts) -> Result<ClosedDay, NoMemory> {
     }
 }
 
+// A gate of which nobody knows whether it is open: so each worker has a thread of its own.
+struct Threaded;
+
+impl PlaceGate for Threaded {
+    fn enter(&self, _worker: u32, _place: u32) {}
+}
+
 // `settle_regions`, of which the closed day alone is looked at, with a book that it has given back before.
 fn closed_by_regions<R: Threads + Sync>(
     rt: &R,
@@ -226,7 +233,7 @@ fn closed_by_regions<R: Threads + Sync>(
     let Some(parts) = given_back(rt, alloc, parts, &rules, &batch) else {
         return Ended::Otherwise;
     };
-    match settle_regions(rt, alloc, parts, &rules, &batch, workers, &FreePlaces) {
+    match settle_regions(rt, alloc, parts, &rules, &batch, workers, &Threaded) {
         Ok((closed, _)) => how_ended(joined(alloc, closed)),
         Err(not_settled) => not_settled.fault.into(),
     }

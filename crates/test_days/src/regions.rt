@@ -204,8 +204,15 @@ fn a_held_worker_of_eight_holds_up_no_region_but_its_own(rt: HostRuntime) {
 // A day of one bundle is not dealt out: worker 0 carries it out.
 #[test]
 fn worker_0_carries_out_a_day_of_one_bundle(rt: HostRuntime) {
-    let told = shifts(&rt, rt.alloc(), TWICE, 4, &FreePlaces);
+    let told = shifts(&rt, rt.alloc(), TWICE, 4, &Meeting::of(1));
     assert_eq!(rt; told.as_str(), "0:2 1:0 2:0 3:0 ");
+}
+
+// At an open gate nobody waits, and worker 0 is done with a small day before another has begun.
+#[test]
+fn worker_0_carries_out_a_small_day_at_an_open_gate(rt: HostRuntime) {
+    let told = shifts(&rt, rt.alloc(), UNKNOWN, 4, &FreePlaces);
+    assert_eq!(rt; told.as_str(), "0:8 1:0 2:0 3:0 ");
 }
 
 #[test]

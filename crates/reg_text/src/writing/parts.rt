@@ -127,9 +127,13 @@ fn add_blocks<R: Threads + Sync>(
 // So many log rows and accounts are spelled by one thread: to start others would take longer.
 const FEW: usize = 1_024;
 
-// Whether there is little to spell: few replies, and one list of few accounts.
+// Whether there is little to spell: few replies, and few accounts in all lists.
 fn is_short(lists: &[Vec<Account>], replies: &[Reply]) -> bool {
-    replies.len() < FEW && lists.len() < 2 && lists.iter().all(|list| list.len() < FEW)
+    let mut accounts: usize = 0;
+    for list in lists {
+        accounts = accounts.saturating_add(list.len());
+    }
+    replies.len() < FEW && accounts < FEW
 }
 
 /// The report of a batch with these replies in pieces, spelled by so many threads. Their bytes one after another are

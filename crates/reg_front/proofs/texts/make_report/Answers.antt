@@ -1,4 +1,3 @@
-use Rattle.std.proofs.Common.{refl}
 use Rattle.reg_text.specs.Inputs.{day_of_parts}
 use Rattle.reg_front.specs.Made.{text_made}
 use Rattle.reg_front.proofs.Reports.{reported}
@@ -7,9 +6,6 @@ use Rattle.reg_front.proofs.texts.make_report.Goals as goal
 pub returns : goal.returns
 returns g c =
     let closed = c.in_ok-closed.closed in
-    let used = c.in_ok-used.used in (
-      rw c.in_ok-closed.ensures.0 refl,
-      reported c.log_is_made_again.ensures (day_of_parts c.args.day) closed.parts closed.replies.items
-          (text_made used) c.in_ok-closed.ensures.1 c.in_ok-closed.ensures.2
-          c.in_ok-used.ensures,
-    )
+    let used = c.in_ok-used.used in
+    reported c.log_is_made_again.ensures (day_of_parts c.args.day) closed.parts closed.replies.items
+    (text_made used) c.in_ok-closed.ensures.parts c.in_ok-closed.ensures.replies c.in_ok-used.ensures
