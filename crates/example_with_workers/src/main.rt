@@ -31,8 +31,8 @@ fn tell_shift<N: Naming, W: Write>(writer: &mut W, shift: &Shift<N>) -> Result<(
     writeln!(writer, "worker {worker} ran {count}").or(Err(Unanswered))
 }
 
-/// The report of a day that workers settle, who are told of. `None` if a thread could not be started, if memory ran
-/// out, or if they can't be told of.
+/// The report of a day that workers settle; `teller` is told how many instructions each ran. `None` if a thread could
+/// not be started, if memory ran out, or if the teller takes nothing.
 fn report_by_workers<T: Threads + Wait + Sync, W: Write>(
     rt: &T,
     alloc: Global,

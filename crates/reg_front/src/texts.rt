@@ -54,7 +54,7 @@ pub(crate) struct Used {
     closed: Closed,
 }
 
-/// The text of a command for a day, made by so many threads; by workers, if these settle it. The input that lay in
+/// The text of a command for a day, made by so many threads. Those of `settle` are its workers. The input that lay in
 /// `memory` is no longer needed: a report and a text of figures take its memory, and for another text it is given back.
 ///
 /// # Errors

@@ -48,9 +48,10 @@ const REGIONS_EACH: u32 = 3;
 /// none left, it takes one from another worker. The book after the day is the one that `settle_plain` and then
 /// `Book::commit` give, and the replies are those in the log.
 ///
-/// If the day can't be dealt out so, as with one worker, or if such instructions are more than three fifths of all,
-/// worker 0, which is the calling thread, carries out all instructions in the order of the batch, and the book has one
-/// list afterwards. If there are fewer than 1,024 instructions, and the gate is open, it carries out all regions.
+/// If the day can't be dealt out so, as with one worker, or if lists have no room for what belongs together, which is
+/// more than three fifths of all instructions, worker 0, which is the calling thread, carries out all of them in the
+/// order of the batch, and the book has one list afterwards. If there are fewer than 1,024 instructions, and the gate is
+/// open, it carries out all regions.
 ///
 /// There is a shift for each worker, from worker 0 on, and each place from 1 to the number of instructions is in one
 /// shift, once.
@@ -144,6 +145,7 @@ fn settle_book<N: Notes + Send, R: Threads + Sync, G: PlaceGate>(
     closing_is_a_book();
     settled_is_closing();
     regions_are_a_day();
+    // (for the proof: the base is within its limits)
     batch.base();
     let count = batch.len();
     let (lists, directory, next) = parts.into_lists();

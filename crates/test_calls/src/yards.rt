@@ -79,7 +79,7 @@ impl Call for Putting<Task<Unnamed>> {
         }
     }
 
-    // The place of the task that is to be put.
+    // A digest of the place of the task that is to be put.
     fn lent(&self) -> Digest {
         match &self.task {
             Some(task) => digest_of(&task.place()),

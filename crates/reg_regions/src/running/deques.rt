@@ -26,6 +26,7 @@ pub(crate) fn deal_regions<C: Cutting>(
     regions.reverse();
     let mut next = 0;
     for region in regions {
+        // (each region finds a deque with room, so neither comes)
         let Some(owner) = owners.get_mut(next) else {
             return Err(NoMemory);
         };
@@ -69,7 +70,7 @@ pub(crate) fn make_workers<T: Numbered + Drop, S: Sharing>(
     let mut workers = Vec::with_capacity(alloc, passes.len())?;
     let mut owners = owners.into_iter();
     for pass in passes {
-        // Each pass has one.
+        // Each pass has one, so this never comes.
         let Some(owner) = owners.next() else {
             return Err(NoMemory);
         };

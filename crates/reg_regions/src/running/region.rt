@@ -67,7 +67,7 @@ pub(crate) fn make_regions<C: Cutting>(
     let mut number: u32 = 0;
     let mut deals = deals.into_iter();
     for accounts in lists {
-        // Each list has one.
+        // Each list has one, so this never comes.
         let Some(deal) = deals.next() else {
             return Err(NoMemory);
         };

@@ -27,6 +27,7 @@ pub(crate) fn in_places(
     let mut left = from_the_first(alloc, regions)?;
     let mut replies = Vec::with_capacity(alloc, count as usize)?;
     for before in 0..count {
+        // Each place was dealt once, and has a reply: so neither comes.
         let home = number_or_zero(&homes, before) as usize;
         if home >= left.len() {
             return Err(NoMemory);

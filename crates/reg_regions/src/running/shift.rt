@@ -229,6 +229,7 @@ fn carry_out<N: Notes>(
     ensures noted { OnOk result (N.places notes.new ≡ N.places notes.old ++ kept N.keeps (place ∷ [])) }
 {
     step_laws();
+    // (for the proof: the date is within its limits)
     setting.day.get();
     let number = RecordNo::new(batch.base() + u64::from(place)).unwrap();
     let instructions = batch.instructions();

@@ -98,10 +98,11 @@ pub(crate) fn in_order(
     let mut places = put_in_places(alloc, count, settled)?;
     let mut regions = Vec::with_capacity(alloc, count as usize)?;
     for before in 0..count {
+        // Each region was settled, so this never comes.
         let Some(one) = places[before as usize].take() else {
             return Err(NoMemory);
         };
-        // Each region was settled, and stands where its number says: so it is this one.
+        // It stands where its number says: so it is this one.
         if one.number != before + 1 {
             return Err(NoMemory);
         }

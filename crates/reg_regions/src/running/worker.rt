@@ -114,7 +114,7 @@ fn run<C: Cutting, S: Sharing, N: Notes, G: PlaceGate>(
 {
     let mut busy = busy;
     let number = taken.task.number;
-    // A deque gives none twice.
+    // A deque gives none twice, so this never comes.
     if !table.claim(&mut busy.seat, number) {
         return Err(NoMemory);
     }

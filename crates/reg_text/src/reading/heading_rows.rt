@@ -1,4 +1,4 @@
-//! The rows at the head of a text.
+//! The rows of the heading before its lists.
 
 ghost use Rattle.std.specs.Prelude.{◌≡◌, IfOk};
 ghost use Rattle.reg_book.specs.Book.{IsNext};

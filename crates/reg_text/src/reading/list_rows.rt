@@ -1,4 +1,4 @@
-//! The rows of the lists between the heading and the accounts.
+//! The rows of the heading's lists: who surrenders what, administrators, working days.
 
 ghost use Rattle.std.specs.Prelude.{◌≡◌};
 ghost use Rattle.csv.specs.Records.{fields_of};
