@@ -311,11 +311,22 @@ fn take_instruction(heading: &Heading, body: &mut Body, row: &ByteRecord) -> Res
     ensures { TakesRow (read_behind heading.now body.new) result
         (with_row tag.Do (read_behind heading.now body.old) (fields_of row.now)) }
 {
-    let instruction = read_instruction_row(row)?;
+    // (taken apart and made again: the kit's borrow checker carries its fields, and not the whole)
+    let Instruction {
+        proposed,
+        proposer,
+        approver,
+        act,
+    } = read_instruction_row(row)?;
     if !has_number(heading.day, body.instructions.len()) {
         return Err(RowError::Fault(Cause::Limit));
     }
-    body.instructions.push(instruction)?;
+    body.instructions.push(Instruction {
+        proposed,
+        proposer,
+        approver,
+        act,
+    })?;
     body.last = Some(Tag::Do);
     Ok(())
 }
