@@ -1,6 +1,8 @@
--- Single rows: the instruction that a text of one row says, and the text of one row of a log.
-use Rattle.std.specs.Prelude.{◌≡◌, ◌↔◌, ℕ, List, [], ◌∷◌, Result, Ok, Err, if◌then◌else◌}
+-- Single rows: the instruction that a text of one row says, the version that the first row of a text says, and the text
+-- of one row of a log.
+use Rattle.std.specs.Prelude.{◌≡◌, ◌↔◌, ℕ, List, [], ◌∷◌, Option, None, Result, Ok, Err, if◌then◌else◌}
 use Rattle.std.specs.List.{AllByRecursion, flat_map}
+use Rattle.std.specs.Result.{result_ok}
 use Rattle.std.specs.Str.{bytes_eq}
 use Rattle.csv.specs.Writing.{default_writer, row_text as text_of_row}
 use Rattle.reg_base.specs.declared.instruction.Instruction.{Instruction}
@@ -9,6 +11,7 @@ use Rattle.reg_rules.specs.declared.reply.LogRow.{LogRow}
 use Rattle.reg_cuts.specs.Rows.{rows_in_text}
 use Rattle.reg_text.specs.declared.cause.Cause.{Cause}
 use Rattle.reg_text.specs.declared.cause.Cause.TheVariants as cause
+use Rattle.reg_text.specs.declared.reading.scope.Version.{Version}
 use Rattle.reg_text.specs.declared.reading.tag.Tag.TheVariants as tag
 use Rattle.reg_text.specs.TextRows.{TextRow, field}
 use Rattle.reg_text.specs.Scopes.{widest}
@@ -39,6 +42,17 @@ instruction_of_rows (r ∷ rows) = at_row 1 (instruction_in r) (if_alone rows)
 abbrev pub OneRowOfAnInstruction : Type 0
 OneRowOfAnInstruction = (rows : List TextRow) (i : Instruction) → (instruction_of_rows rows ≡ Ok i)
     ↔ ((rows ≡ row_text tag.Do i ∷ []) × IsInstruction i × IsShared i.act)
+
+-- ---- a version
+
+-- the version that a row says, whose tag is `format`
+abbrev pub version_in : TextRow → Result Version Cause
+version_in r = if bytes_eq (field r 0) (tag_word tag.Format) then row_read widest tag.Format r else Err cause.Tag
+
+-- the version that the first of these rows says, if it says one
+abbrev pub version_told : List TextRow → Option Version
+version_told [] = None
+version_told (r ∷ rows) = result_ok (version_in r)
 
 -- ---- a row of a log
 

@@ -13,7 +13,7 @@ pub returns : goal.returns
 returns c =
     let day = day_of_input c.in_ok-input.input in
     let reading = c.in_ok-input.ensures.reads in
-    let told = c.in_ok-read_version.ensures day reading in
+    let told = c.in_ok-read_version.ensures.spelled day reading in
     let later : day.batch.day < c.in-Ok.next = grind (arith, common_steps, c.if-le.ensures, c.day.ensures) in
     let same : c.unwrap_or-version.result ≡ reading.version = c.unwrap_or-version.ensures
     ∙ ap (λ (version : Option Version). unwrap_or version Two) told in (
