@@ -188,11 +188,12 @@ FULL = day(
     unknown(8192, 2 * MANY_ACCOUNTS),
     ACCOUNTS + "".join(f"account,{10 + number},trading,12,open,no,no,0,0,0\n" for number in range(MANY_ACCOUNTS)),
 )
-# As many transfers between accounts that stand far apart, which are most of the book: each pair is a bundle, and one of
-# its accounts has to be swapped into the region of the other, where few stand that nobody wants.
+# Twice as many transfers between accounts that stand far apart, which are most of the book: each pair is a bundle of
+# two of them, and one of its accounts has to be swapped into the region of the other, where few stand that nobody
+# wants.
 SWAPPED = day(
-    "a long day of 8,192 transfers between accounts far apart",
-    [f"101,102,transfer,{10 + number},{9 + MANY_ACCOUNTS - number},general,1" for number in range(8192)],
+    "a long day of 16,384 transfers, two of each pair of accounts far apart",
+    [f"101,102,transfer,{10 + number},{9 + MANY_ACCOUNTS - number},general,1" for number in range(8192)] * 2,
     ACCOUNTS + "".join(f"account,{10 + number},trading,12,open,no,no,0,0,0\n" for number in range(MANY_ACCOUNTS)),
 )
 # A file of it is read in two pieces, of which the second begins with an account in the middle; empty lines say nothing.

@@ -128,9 +128,17 @@ def functions_of(lines: list[str]) -> Iterator[Function]:
 
 
 def end_of(lines: list[str], header: int, indent: str) -> int:
-    """The last line of the function with this header."""
+    """The last line of the function with this header. One that is only declared ends with a semicolon."""
     if lines[header].endswith("}") and lines[header].count("{") == lines[header].count("}"):
         return header
+    begun = re.compile(rf"{indent}(?:\S.*)?\{{")
+    open_brackets = 0
+    for index in range(header, len(lines)):
+        open_brackets += lines[index].count("{") - lines[index].count("}")
+        if begun.fullmatch(lines[index]):
+            break
+        if lines[index].endswith(";") and open_brackets == 0:
+            return index
     return next((index for index in range(header, len(lines)) if lines[index] == indent + "}"), header)
 
 

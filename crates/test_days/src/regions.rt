@@ -6,7 +6,7 @@ use crate::orders::{APART, TWICE};
 use crossbeam_utils::Backoff;
 use reg_base::{Batch, Rules};
 use reg_book::{Parts, settle_plain};
-use reg_regions::{FreePlaces, PlaceGate, RegionsFault, WorkShift, settle_regions};
+use reg_regions::{FreePlaces, OwnedRegion, PlaceGate, RegionsFault, WorkShift, settle_regions};
 use reg_text::{DayInput, write_book};
 use std::alloc::Global;
 use std::process::Abort;
@@ -44,18 +44,30 @@ fn plainly(rt: &impl Abort, alloc: Global, instructions: &str) -> String {
     String::from_utf8(bytes).expect(rt, "a text")
 }
 
-// How many places each worker ran.
+// Adds behind how many places of a worker each region stands that it stole.
+fn add_stolen(rt: &impl Abort, alloc: Global, told: &mut String, regions: &[OwnedRegion]) {
+    for region in regions {
+        if region.stolen {
+            let one = format!(in alloc; "+{} ", region.before);
+            told.push_str(one.expect(rt, "memory").as_str())
+                .expect(rt, "memory");
+        }
+    }
+}
+
+// How many places each worker ran, and what it stole.
 fn lengths(rt: &impl Abort, alloc: Global, shifts: &[WorkShift]) -> String {
     let mut told = String::new(alloc);
     for shift in shifts {
         let one = format!(in alloc; "{}:{} ", shift.worker(), shift.places().len());
         told.push_str(one.expect(rt, "memory").as_str())
             .expect(rt, "memory");
+        add_stolen(rt, alloc, &mut told, shift.regions());
     }
     told
 }
 
-// How many places each of so many workers ran of a day, which leaves what its instructions leave one after another.
+// The same of each of so many workers on a day, which leaves what its instructions leave one after another.
 fn shifts<R: Abort + Threads + Sync, G: PlaceGate>(
     rt: &R,
     alloc: Global,
@@ -131,6 +143,21 @@ impl PlaceGate for HeldFirst {
     }
 }
 
+// A gate that holds worker 7 until all instructions have entered.
+#[derive(Drop)]
+struct HeldLast {
+    meeting: Meeting,
+}
+
+impl PlaceGate for HeldLast {
+    fn enter(&self, worker: u32, _place: u32) {
+        self.meeting.entered.fetch_add(1, Ordering::SeqCst);
+        if worker == 7 {
+            self.meeting.wait(self.meeting.wanted);
+        }
+    }
+}
+
 #[test]
 fn instructions_of_two_bundles_run_at_once(rt: HostRuntime) {
     let gate = Meeting::of(2);
@@ -147,7 +174,7 @@ fn eight_workers_run_eight_bundles_at_once(rt: HostRuntime) {
     assert_eq!(rt; gate.missed.load(Ordering::SeqCst), 0);
 }
 
-// The one that is not held steals what lies in the deque of the other.
+// The one that is not held runs its own three, and then steals both that lie in the deque of the other.
 #[test]
 fn a_held_worker_holds_up_no_region_but_its_own(rt: HostRuntime) {
     let gate = HeldFirst {
@@ -155,7 +182,7 @@ fn a_held_worker_holds_up_no_region_but_its_own(rt: HostRuntime) {
     };
     let told = shifts(&rt, rt.alloc(), SIX, 2, &gate);
     assert!(rt;
-        told.as_str() == "0:1 1:5 " || told.as_str() == "0:5 1:1 ",
+        told.as_str() == "0:1 1:5 +3 +4 " || told.as_str() == "0:5 +3 +4 1:1 ",
         "{told}"
     );
     assert_eq!(rt; gate.meeting.missed.load(Ordering::SeqCst), 0);
@@ -190,10 +217,10 @@ fn apart(rt: &impl Abort, alloc: Global) -> String {
     rows
 }
 
-// Whoever is held has two more regions in its deque, which the others steal from it.
+// The last worker has two more regions in its deque, which the others steal from it.
 #[test]
-fn a_held_worker_of_eight_holds_up_no_region_but_its_own(rt: HostRuntime) {
-    let gate = HeldFirst {
+fn the_last_worker_of_eight_holds_up_no_region_but_its_own(rt: HostRuntime) {
+    let gate = HeldLast {
         meeting: Meeting::of(24),
     };
     let rows = apart(&rt, rt.alloc());
