@@ -1,4 +1,5 @@
 """The pages of questions: accounts, names, compliance, days together, the journal, audits, packages and answers."""
+import functools
 import io
 import tempfile
 import zipfile
@@ -17,7 +18,7 @@ from registry_tools.desk.shown import TYPED, asked, number_asked, row_of_taken, 
 from registry_tools.desk.words import PAGES
 from registry_tools.errors import WordsFault
 from registry_tools.notes import BY_HAND
-from registry_tools.office import taken
+from registry_tools.office import awaited, taken
 from registry_tools.office.changes import listing
 from registry_tools.office.labels import ACCOUNT, KINDS
 from registry_tools.pages import compliance as standing
@@ -212,9 +213,11 @@ def download(content: bytes, kind: str, name: str) -> Response:
 def journal(served: Served) -> Any:
     """The page of what was done in the folder, and changed by hand."""
     office = served.reading.office()
-    events = [(own.at, own.event, str(own.date), own.who, own.why) for own in reversed(office.journal.events)]
-    items = listing.items_of(office)
-    by_hand = [(day, own.part.at, own.part.who, own.part.name, item_in_words(own)) for day, own in items]
+    who = functools.partial(awaited.who_and_second, office)
+    events = [(own.at, own.event, str(own.date), who(own.who, own.login, own.approved), own.why)
+              for own in reversed(office.journal.events)]  # fmt: skip
+    by_hand = [(day, own.part.at, who(own.part.who, own.part.login, second), own.part.name, item_in_words(own))
+               for day, own, second in listing.items_of(office)]  # fmt: skip
     gone = [(day, *row_of_taken(own)) for day, own in taken.of_all(office)]
     return show_page("journal", "Journal", events=events, by_hand=[*reversed(by_hand)], taken=[*reversed(gone)])
 

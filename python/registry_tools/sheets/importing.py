@@ -9,8 +9,9 @@ day a time belongs to. ./day hand-in takes such tables too, and keeps them.
 
 The file of --mapping tells how others write it, a line each:
 
-  [columns]           headings, and the columns that they are; behind = nothing: passed over
+  [columns]           headings, and the columns that they are; one with nothing behind = is passed over
   Betrag = amount
+  Bemerkung =
   [act]               of a column, words and what they are
   Ausbuchung = surrender
   [always]            what all rows have in a column that is not there
