@@ -69,7 +69,7 @@ def looked_trials(work: Path) -> Iterator[Trial]:
     """A day with something to look at is not filed before somebody says so."""
     office, own = two_days(work, "looked")
     close: Words = ["close", "--second", "--date"]
-    slip = ["LOOK AT THIS: working days that have no text", "2026-04-02 is not filed, without --yes"]
+    slip = ["LOOK AT THIS: working days that are passed over", "2026-04-02 is not filed, without --yes"]
     yield "close for another year", unchanged(office, 1, slip, *close, "2026-04-02", *own)
     yield "close with nothing to look at", told(0, ["2025-04-02 is settled"], *close, "2025-04-02", *own)
     must_do(["undo", "2025-04-02", "--why", "a slip", *own])

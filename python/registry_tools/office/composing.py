@@ -182,7 +182,7 @@ def later_day(office: Office, handed_in: HandedIn, date: datetime.date) -> NextD
         except EditFault as fault:
             place = next((item.place for item in handed_in.items(EDITS) if item.rows[0] == fault.edit.row()), None)
             raise EditFault(fault.edit, fault.why, place) from None
-        composed.notes = [merged.path.sub(merged.named, note) for note in composed.notes]
+        composed.notes = [*map(merged.named_in, composed.notes)]
     return replace(composed, new=[*handed_in.items(DO)], contents=contents, before=(day, report))
 
 

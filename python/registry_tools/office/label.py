@@ -85,6 +85,8 @@ def must_fit(said: argparse.Namespace) -> None:
             raise WordsFault("--why is for a change: name something, by KIND NUMBER NAME or --file")
     elif showing.is_for_programs(said) or said.to is not None:
         raise WordsFault("--csv, --json and --to are for the list of names")
+    elif said.why is None:
+        raise WordsFault("--why is needed: it is kept with the name")
 
 
 def cells_of(said: argparse.Namespace, label: Label) -> list[showing.Cell]:
