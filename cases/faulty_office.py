@@ -298,7 +298,8 @@ def believed_trials(work: Path) -> Iterator[Trial]:
         told_of = "handed-in.csv" if "handed-in.csv" in changes else min(changes)
         for words in asked:
             to = [made] if words[0] in WRITES else []
-            has = [f"days/{DAY}/{told_of}: SHA-256: found ", "somebody changed it; put it back as it was filed"]
+            mends = f"somebody changed it; put it back as it was filed: ./day mend {DAY} may make it again"
+            has = [f"days/{DAY}/{told_of}: SHA-256: found ", mends]
             yield f"{words[0]} of {what} that somebody changed", unchanged(office, 3, has, *words, *to, *own)
             yield f"{words[0]} of it leaves nothing", "something is there" if made.exists() else None
             shutil.rmtree(made, ignore_errors=True)

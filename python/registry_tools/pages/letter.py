@@ -17,6 +17,7 @@ from registry_tools.texts.report import LogRow
 
 DONE_LATER = Table(["Asked for on", "Record", "Instruction", "Why not then", "Done on", "As record"])
 NOT_DUE_YET = "It was not due yet."
+KEPT = "Keep this page: by its head an auditor sees whether a day up to it was changed later."
 # What the registry's own words are called in a letter.
 IN_A_LETTER = {
     "FROM": "the account that gives", "TO": "the account that receives", "ACCOUNT": "the account",
@@ -38,7 +39,7 @@ ADVICE = {
 }
 STYLE = (
     "@page{size:A4;margin:18mm 15mm 20mm;@bottom-center{content:counter(page) ' / ' counter(pages)}}"
-    "table.sheet{width:100%;border:0}"
+    "table.sheet{width:100%;border:0}p.sum{overflow-wrap:anywhere}"
     "table.sheet>thead>tr>td,table.sheet>tbody>tr>td{border:0;padding:0;background:none}"
     "table.sheet>thead>tr>td{padding-bottom:.6rem;font-weight:600}"
     "@media screen{table.sheet,table.sheet>*,table.sheet>*>tr,table.sheet>*>tr>td{display:block}"
@@ -133,13 +134,18 @@ def parts_of(settled: Settled, statement: LetterStatement) -> Iterator[Markup]:
     yield from standing_parts(settled, account, statement)
 
 
-def section_of(settled: Settled, statement: LetterStatement, holder: str, is_taken_over: bool) -> Markup:
-    """An account: its number and holder stand at the head of each page on which it is printed."""
+def section_of(
+    settled: Settled, statement: LetterStatement, holder: str, is_taken_over: bool, table: tuple[str, str]
+) -> Markup:
+    """An account: its number and holder stand at the head of each page on which it is printed. Its last line tells the
+    name of its statement as a table, and the sum of that."""
     own = settled.names.name_of(ACCOUNT, statement.number)
     name = ", ".join(filter(None, [f"Account {statement.number}", own, holder]))
     since = f"This account has had another holder: its statement begins on {long_date(statement.first_day)}."
     lead = [tag("p", since)] if is_taken_over else []
-    content = joined(tag("h2", f"Account {statement.number}"), *lead, *parts_of(settled, statement))
+    name_of_table, sum_of_table = table
+    told = tag("p", f"The statement as a table: {name_of_table}, whose SHA-256 is {sum_of_table}.", class_="sum")
+    content = joined(tag("h2", f"Account {statement.number}"), *lead, *parts_of(settled, statement), told)
     head = f"<thead><tr><td>{tag('span', name)}</td></tr></thead>"
     sheet = f"<table class='sheet'>{head}<tbody><tr><td>{content}</td></tr></tbody></table>"
     return Markup(f"<section>{sheet}</section>")
@@ -153,17 +159,20 @@ def page_of(title: str, lead: str, sections: list[Markup]) -> str:
     return f"{head}<body>\n{body}\n</body>\n</html>\n"
 
 
-def letter(settled: Settled, days: Sequence[DayTold], holder: int, places: dict[int, int], head: str) -> str:
-    """The page of a holder: each account from the day at its place on; and the head of the folder that it was made
-    of."""
+def letter(
+    settled: Settled, days: Sequence[DayTold], holder: int, places: dict[int, int], head: str,
+    tables: dict[int, tuple[str, str]],
+) -> str:  # fmt: skip
+    """The page of a holder: each account from the day at its place on, with the name and the sum of its table; and the
+    head of the folder that it was made of."""
     name = settled.names.holder(holder)
     sections = []
     for number, place in places.items():
         statement = LetterStatement(settled, number, days[place:])
-        sections.append(section_of(settled, statement, name, place > 0))
+        sections.append(section_of(settled, statement, name, place > 0, tables[number]))
     begin, end = days[0].date, days[-1].date
     lead = f"From {long_date(begin)} to {long_date(end)}." if begin != end else f"{long_date(end)}."
-    return page_of(f"Holder {name}", f"{lead} {head_in_words(head)}".rstrip(), sections)
+    return page_of(f"Holder {name}", f"{lead} {head_in_words(head)}{f' {KEPT}' if head else ''}".rstrip(), sections)
 
 
 def head_in_words(head: str) -> str:
