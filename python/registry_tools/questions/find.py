@@ -11,6 +11,7 @@ import datetime
 from typing import Iterator, Sequence
 
 from registry_tools import showing, tables
+from registry_tools.calendars.due_days import NOT_DUE
 from registry_tools.errors import FOUND, WordsFault
 from registry_tools.office import index, naming, past
 from registry_tools.office.asking import HOLDER_HAS, NAMING, logged
@@ -33,6 +34,7 @@ def add_words(parser: argparse.ArgumentParser) -> None:
     parser.add_argument("--name", metavar="NAME", help=named)
     parser.add_argument("--act", choices=faults.ACT_WORDS, help="rows of this act")
     parser.add_argument("--refused", action="store_true", help="only what was refused")
+    parser.add_argument("--no-waiting", action="store_true", help="leave out what only waited for its due day")
     parser.add_argument("--from", dest="begin", metavar="DATE", help="from this day on")
     parser.add_argument("--to", dest="end", metavar="DATE", help="up to this day")
     # (--to is a day here)
@@ -48,7 +50,8 @@ def run(said: argparse.Namespace) -> int:
     take_names(said, names)
     found = in_pairs(said, begin, end) if said.pairs else in_folder(said, begin, end)
     own = accounts_meant(said)
-    rows = [cells for logged in found for cells in cells_of(logged, own)]
+    wanted = (logged for logged in found if logged.name != NOT_DUE or not said.no_waiting)
+    rows = [cells for logged in wanted for cells in cells_of(logged, own)]
     shown = naming.rows_shown(said, COLUMNS, rows, names)
     showing.show_or_tell(said, COLUMNS, shown, lambda: told_of(shown, said.refused))
     return 0 if rows else FOUND
