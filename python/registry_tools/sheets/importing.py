@@ -44,7 +44,9 @@ EXAMPLE = (
     "  ./day import out/new.xlsx > out/new.csv"
 )
 MOST_SHOWN, MOST_TOLD = 5, 100
-OTHER_FORM = "--dates tells another form"
+OTHER_FORM, OTHER_AMOUNTS = "--dates tells another form", "amounts of --mapping tells the separators"
+# How somebody writes a number with separators.
+PARTED = re.compile(rf"-?[0-9]{{1,3}}(?:[.,'{mappings.BLANKS}][0-9]{{3}})+(?:[.,][0-9]+)?", re.ASCII)
 
 
 @dataclass(frozen=True)
@@ -125,7 +127,9 @@ def unused(table: Table, number: int, said: dict[str, str], act: str, used: set[
 
 
 def expected_of(table: Table, expected: str, word: str) -> str:
-    """What is expected: of a date in the form that was told, and else how another form is told."""
+    """What is expected: of a date in the form that was told, and else how another form is told, also of an amount."""
+    if "in plain digits" in expected and table.mapping.amounts is None and PARTED.fullmatch(word):
+        return f"{expected}; {OTHER_AMOUNTS}"
     if table.dates is not None:
         return expected.replace("YYYY-MM-DD", f"as {table.dates}")
     if "date" in expected and re.fullmatch(r"[0-9]{1,4}[./-][0-9]{1,2}[./-][0-9]{1,4}", word):
