@@ -10,7 +10,7 @@ from registry_tools.pages.account import entry_parts, facts_of, refused_parts, s
 from registry_tools.pages.html import HEAD, PARTS, Cells, Markup, Table, heading, joined, style_of, tag
 from registry_tools.pages.rulebook import Rulebook
 from registry_tools.pages.settled import Settled, long_date
-from registry_tools.pages.statement import DayTold, Own, Statement
+from registry_tools.pages.statement import OF_ANOTHER, DayTold, Own, Statement
 from registry_tools.texts.checks import Check, without_marks
 from registry_tools.texts.own import OwnRow
 from registry_tools.texts.report import LogRow
@@ -81,6 +81,8 @@ class LetterStatement(Statement):
         # The tries of what was not done, by its fields: it is the same instruction if all of them are the same.
         self.asked: dict[tuple[str, ...], list[list[LogRow]]] = {}
         self.done_later: list[Cells] = []
+        # What waits behind the last day and is of others, as far as the own statement tells it.
+        self.of_others: list[Cells] = []
         super().__init__(settled, number, days)
 
     def take(self, date: datetime.date, own_row: OwnRow) -> None:
@@ -95,6 +97,13 @@ class LetterStatement(Statement):
                 equal.append([*tries, logged])
         if logged.name != NOT_DUE:
             super().take(date, own_row)
+        elif not own_row.is_whole and date == self.days[-1].date:
+            self.of_others.append((logged.record, OF_ANOTHER, "", ""))
+
+    def waiting(self) -> Iterator[Cells]:
+        """What waits of this account with its due day, and that something of others waits."""
+        yield from super().waiting()
+        yield from self.of_others
 
     def tell_done_later(self, before: list[LogRow], date: datetime.date, done: LogRow) -> None:
         """Takes what was refused and is done now out of the refusals."""
