@@ -22,7 +22,7 @@ from registry_tools.office import awaited, taken
 from registry_tools.office.changes import listing
 from registry_tools.office.labels import ACCOUNT, KINDS
 from registry_tools.pages import compliance as standing
-from registry_tools.pages import month_standing
+from registry_tools.pages.month_standing import until_in_words
 from registry_tools.pages.beside import item_in_words, words_of_row
 from registry_tools.pages.html import Markup, link
 from registry_tools.pages.rulebook import document_parts
@@ -109,7 +109,7 @@ def compliance(served: Served) -> Any:
     rows = own.once(("standings", year), office.journal.last_line, lambda: sorted(standings, key=standing.order))
     return show_page(
         "compliance", f"Compliance for {year}", year=year, rows=[*map(row_of_standing, rows)], columns=COLUMNS,
-        counts=standing.counts_table(rows) if rows else "", until=month_standing.until_in_words(settled.head.date, deadline),
+        counts=standing.counts_table(rows) if rows else "", until=until_in_words(settled.head.date, deadline),
         missing=sum(own.missing or 0 for own in rows), date=settled.head.date,
         shown_row=lambda row: cells_of_standing(settled, row[-1]),
     )  # fmt: skip

@@ -51,9 +51,11 @@ def compliance_parts(
     lacking = sorted(unsettled, key=lambda row: (-(row.missing or 0), row.account.number))
     if lacking:
         until = until_in_words(last.date, deadline or due.surrender_of(year))
-        whose = ((row.account, row) for row in lacking)
-        led = ((way(f"/accounts/{of.number}", names.account(of.number)), names.holder(of.holder), row) for of, row in whose)
-        own = [(account, holder, bar(row), missing_of(row), until) for account, holder, row in led]
+        own = []
+        for row in lacking:
+            of = row.account
+            account, holder = way(f"/accounts/{of.number}", names.account(of.number)), names.holder(of.holder)
+            own.append((account, holder, bar(row), missing_of(row), until))
         yield from first_rows_of(MISSED, f"Who is missing how much for {year}", own, most)
 
 

@@ -7,9 +7,9 @@ the statements begin on an earlier day: what was not due or was refused then, an
 An account that had another holder on one of these days begins with the first day of its holder of the last one; the
 statement of the other holder is made with --day.
 Names are those of the folder of days (./day label), or of the file of --labels: rows user,NUMBER,NAME,
-holder,NUMBER,NAME and account,NUMBER,NAME, in UTF-8. A letter tells the head of the folder, by which ./day audit --since
-sees later whether days were changed, and the SHA-256 of each csv; it names no account but its holder's. With --pairs the
-days are those of paths, and the file of --pending says what waits since earlier ones.
+holder,NUMBER,NAME and account,NUMBER,NAME, in UTF-8. A letter tells the head of the folder, by which ./day audit
+--since sees later whether days were changed, and the SHA-256 of each csv; it names no account but its holder's. With
+--pairs the days are those of paths, and the file of --pending says what waits since earlier ones.
 
 A day that is not released is told, since it may be undone behind its letters: --release releases it with them. So are
 names that were changed since the last day was filed or released.
