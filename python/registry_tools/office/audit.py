@@ -122,7 +122,8 @@ def summary(audit: Audit, heads: str) -> str:
 
 def look_at_heads(audit: Audit, said: argparse.Namespace) -> str:
     """Whether the journal has grown from each head that was kept elsewhere: from how many it has, if there are any."""
-    there, key, faults = audit.office.journal, audit.office.settings.key, []
+    there, key = audit.office.journal, audit.office.settings.key
+    faults: list[FileFault | None] = []
     if said.date is not None and said.since is None:
         raise WordsFault("--date tells the last day of --since HEAD, which is not there")
     if said.since is not None:

@@ -51,7 +51,7 @@ def compliance_parts(
     lacking = sorted(unsettled, key=lambda row: (-(row.missing or 0), row.account.number))
     if lacking:
         until = until_in_words(last.date, deadline or due.surrender_of(year))
-        own = []
+        own: list[tuple[object, ...]] = []
         for row in lacking:
             of = row.account
             account, holder = way(f"/accounts/{of.number}", names.account(of.number)), names.holder(of.holder)
