@@ -186,7 +186,8 @@ def message_trials(work: Path) -> Iterator[Trial]:
     yield "the second file has a fault", told(3, ["wrong.csv:1: GENERAL of account 12"], "hand-in", wrong, *own)
     late = work / "late.csv"
     late.write_text("".join(f"do,2025-04-0{day},101,102,transfer,1,2,general,9\n" for day in range(2, 8)))
-    has = ["late.csv:1: PROPOSED: found 2025-04-02", "more rows of the instructions handed in that were proposed later"]
+    more = "more rows of the instructions handed in that were proposed later"
+    has = ["late.csv:1 (place 2): PROPOSED: found 2025-04-02", more]
     said = Said("hand-in", late, *own)
     lacking = [part for part in has if part not in said.errors + said.output]
     yield "rows that are late", str(said) if lacking or "/tmp" in said.errors + said.output else None

@@ -69,7 +69,7 @@ def looked_trials(work: Path) -> Iterator[Trial]:
     """A day with something to look at is not filed before somebody says so."""
     office, own = two_days(work, "looked")
     close: Words = ["close", "--second", "--date"]
-    slip = ["LOOK AT THIS: working days that have no text", "2026-04-02 is not filed, without --yes"]
+    slip = ["LOOK AT THIS: working days that are passed over", "2026-04-02 is not filed, without --yes"]
     yield "close for another year", unchanged(office, 1, slip, *close, "2026-04-02", *own)
     yield "close with nothing to look at", told(0, ["2025-04-02 is settled"], *close, "2025-04-02", *own)
     must_do(["undo", "2025-04-02", "--why", "a slip", *own])
@@ -298,7 +298,8 @@ def believed_trials(work: Path) -> Iterator[Trial]:
         told_of = "handed-in.csv" if "handed-in.csv" in changes else min(changes)
         for words in asked:
             to = [made] if words[0] in WRITES else []
-            has = [f"days/{DAY}/{told_of}: SHA-256: found ", "somebody changed it; put it back as it was filed"]
+            mends = f"somebody changed it; put it back as it was filed: ./day mend {DAY} may make it again"
+            has = [f"days/{DAY}/{told_of}: SHA-256: found ", mends]
             yield f"{words[0]} of {what} that somebody changed", unchanged(office, 3, has, *words, *to, *own)
             yield f"{words[0]} of it leaves nothing", "something is there" if made.exists() else None
             shutil.rmtree(made, ignore_errors=True)

@@ -111,7 +111,7 @@ def without_head(path: Path) -> str:
     return HEAD.sub("", path.read_text())
 
 
-HEAD = re.compile(r" ?Head of the registry: [0-9a-f]{12}\.")
+HEAD = re.compile(r" ?Head of the registry: [0-9a-f]{12}\.( Keep this page: [^<.]*\.)?")
 
 
 def letters_fault(of_folder: dict[str, str], of_pairs: dict[str, str]) -> str | None:

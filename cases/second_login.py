@@ -3,6 +3,7 @@ approvals that are forged, or of something that has changed since.
 
 Most of it is tried by the right of a desk to say for whom it works. Other logins of the system are tried where this
 process may take them on."""
+import json
 import os
 import pwd
 import shutil
@@ -223,6 +224,8 @@ def change_trials(work: Path) -> Iterator[Told]:
         [line.split(",")[2:] for line in (kept / "days" / TUESDAY / "handed-in.csv").read_text().splitlines()[2:]],
         [[folder.user_name(), "1", f"{people.system_login()}:bert"]],
     )
+    listed = json.loads(Said("changes", "--json", *kept_own).output)
+    yield "its list has it, too", differs({own["approved"] for own in listed}, {f"{people.system_login()}:bert"})
     yield "audit", told(0, ["0 differences"], "audit", "--second", *kept_own)
     must_do(["undo", TUESDAY, *WHY, *of("eva"), *kept_own])
     yield "undo takes approvals back, too", told(0, ["places 1 to 2, change by"], "approve", *kept_own)

@@ -1,7 +1,9 @@
 """Finds the command that the words name, runs it, and answers the exit status."""
 import argparse
+import difflib
 import gc
 import importlib
+import re
 import signal
 import sys
 from typing import Protocol, cast
@@ -31,7 +33,7 @@ OFFICE_COMMANDS = {
     "init": "makes a folder that remembers its days, with the first day text",
     "status": "shows how it stands: the last day, what waits, what was handed in",
     "hand-in": "hands in instructions, working days and accounts for the next day",
-    "change": "changes an account or the rules by hand, as a difference",
+    "change": "changes an account or the rules by hand, as a difference, or opens an account",
     "changes": "lists the changes by hand",
     "label": "names users, holders and accounts, or lists the names",
     "take-back": "takes something back that was handed in",
@@ -109,6 +111,15 @@ def help_text() -> str:
     return streams.by_name("".join([HEAD, *lines, of_folder, *own, TAIL]))
 
 
+def perhaps_meant(word: str) -> str:
+    """The lines of the help of commands that are written almost as a word, or that speak of it."""
+    commands = {**COMMANDS, **OFFICE_COMMANDS}
+    near = difflib.get_close_matches(word, commands, 3)
+    begin = re.compile(rf"\b{re.escape(word.lower())}") if len(word) > 2 else None
+    names = [name for name, what in commands.items() if name in near or (begin and begin.search(what))]
+    return "".join(f"  {name}: {commands[name]}\n" for name in names)
+
+
 def parser_of(name: str, module: Command, names_day: bool = False) -> Words:
     """The parser of a command. It reads no paths of a day if the words name a day of a folder in their place."""
     parser = Words(names_day, prog=f"./day {name}", description=module.__doc__, epilog=f"example:\n  {module.EXAMPLE}")
@@ -180,7 +191,7 @@ def main(arguments: list[str]) -> int:
         return 2
     name, *rest = arguments
     if name not in COMMANDS and name not in OFFICE_COMMANDS:
-        print(f"./day: there is no command {name}\n\n{help_text()}", end="", file=sys.stderr)
+        print(f"{perhaps_meant(name)}./day: there is no command {name}; ./day --help tells all", file=sys.stderr)
         return 2
     try:
         status = run(name, rest)

@@ -4,7 +4,7 @@ import os
 import re
 import sys
 from pathlib import Path
-from typing import IO, Any, Iterator, NoReturn
+from typing import IO, Any, Callable, Iterator, NoReturn
 
 from registry_tools import streams
 from registry_tools.errors import WordsFault
@@ -51,10 +51,16 @@ class Words(argparse.ArgumentParser):
 
     def __init__(self, names_day: bool = False, **more: Any) -> None:
         self.names_day = names_day
+        # (what may stand in place of paths that lack)
+        self.in_place: Callable[[], str] = str
         super().__init__(formatter_class=argparse.RawDescriptionHelpFormatter, allow_abbrev=False, **more)
         for name in (None, "store"):
             self.register("action", name, Given)
         self.register("type", int, whole_number)
+
+    def error(self, message: str) -> NoReturn:
+        """Says what is not taken, and what may stand in place of paths that lack; the exit status is 2."""
+        super().error(f"{message}{self.in_place() if 'arguments are required' in message else ''}")
 
     def format_help(self) -> str:
         """The help, by the name under which the command was started."""

@@ -287,7 +287,7 @@ COLUMNS = {
     "due": columns("date what #account #record text"),
     "balance": columns("after #account kind #held #surrendered #deleted"),
     "history": columns("date #record what outcome #general #aviation"),
-    "changes": columns("day at who why change"),
+    "changes": columns("day at who approved why change"),
     "label": columns("kind #number name at who why"),
     "log": columns(
         "#record date proposed #proposer #approver act #from #to kind #amount #year outcome #code name #figure due "

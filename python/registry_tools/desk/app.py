@@ -7,7 +7,7 @@ from typing import Any, Callable
 
 import flask
 from werkzeug import formparser
-from werkzeug.exceptions import HTTPException, RequestEntityTooLarge
+from werkzeug.exceptions import HTTPException, NotFound, RequestEntityTooLarge
 from werkzeug.wrappers import Response
 
 from registry_tools.desk import gate, pages, posts, questions, shown, words
@@ -103,7 +103,8 @@ def changed(served: Served, view: Callable[..., Any]) -> Any:
 def failed(served: Served, error: Exception) -> Any:
     """What went wrong, on a page."""
     if isinstance(error, HTTPException):
-        return gate.said(error.code or 500, f"{error.name}.")
+        own = error.description if isinstance(error, NotFound) and error.description != NotFound.description else None
+        return gate.said(error.code or 500, own or f"{error.name}.")
     if isinstance(error, OSError):
         name = Path(str(error.filename or "the folder")).name
         return gate.said(500, f"{name}: it cannot be read or written: {error.strerror or 'for a reason not known'}")

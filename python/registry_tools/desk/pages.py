@@ -66,7 +66,7 @@ def today(served: Served) -> Any:
     with contextlib.suppress(WordsFault):
         new = [tried for tried in own.tried(None)[1] if tried.is_new] if items or waits else []
     return show_page(
-        "today", "Today", last=last, is_released=office.journal.is_released(), items=items, waits=waits,
+        "today", "Today", last=last, is_released=office.journal.is_released(), items=items, waits=waits, came=own.came,
         missed=due.missed_days(office), taken=[*map(row_of_taken, taken.of_next(handed_in))], holder=own.holder(),
         coming=due.next_dates(office, MOST_COMING), faults=[*office.changed_files(last)] if last else [],
         new=new, seconds=[*awaited.all_waiting(office, handed_in)],
@@ -231,7 +231,7 @@ def day(served: Served, word: str) -> Any:
     date, own = date_of("the day", word), served.reading
     settled = own.settled(date)
     if settled is None:
-        raise NotFound
+        raise NotFound(f"no day {date} is settled: the page Days has all that are")
     only = asked("only") if asked("only") in OUTCOMES else ""
     log = [row for row in settled.log if only in ("", kind_of(row))]
     rows = [(row.record, record_in_words(row), rules.named(row.instruction), outcome_in_words(row), row) for row in log]

@@ -1,4 +1,5 @@
 """The pages of questions: accounts, names, compliance, days together, the journal, audits, packages and answers."""
+import functools
 import io
 import tempfile
 import zipfile
@@ -17,15 +18,15 @@ from registry_tools.desk.shown import TYPED, asked, number_asked, row_of_taken, 
 from registry_tools.desk.words import PAGES
 from registry_tools.errors import WordsFault
 from registry_tools.notes import BY_HAND
-from registry_tools.office import taken
+from registry_tools.office import awaited, taken
 from registry_tools.office.changes import listing
 from registry_tools.office.labels import ACCOUNT, KINDS
 from registry_tools.pages import compliance as standing
-from registry_tools.pages import month
+from registry_tools.pages.month_standing import until_in_words
 from registry_tools.pages.beside import item_in_words, words_of_row
 from registry_tools.pages.html import Markup, link
 from registry_tools.pages.rulebook import document_parts
-from registry_tools.pages.settled import WAITS, Settled, joined_words, outcome_in_words, record_in_words
+from registry_tools.pages.settled import REFUSED, WAITS, Settled, joined_words, outcome_in_words, record_in_words
 from registry_tools.questions import compliance as answers
 from registry_tools.questions import find as finding
 from registry_tools.questions.history import in_folder as rows_of
@@ -71,7 +72,7 @@ def account(served: Served, number: int) -> Any:
     """The page of an account; NotFound if there is none."""
     parts = served.reading.account(number)
     if parts is None:
-        raise NotFound
+        raise NotFound(f"there is no account {number}: the page Accounts has all that there are")
     own = served.reading
     return show_page(
         "account", f"Account {number}", own=parts, number=number,
@@ -87,7 +88,7 @@ def row_of_history(row: Sequence[Any]) -> Sequence[Any]:
         how, _, changed = what.rpartition(" ")
         what = f"{how} {words_of_row(changed)}"
     elif outcome != "done":
-        outcome = WAITS if outcome == NOT_DUE else f"refused: {outcome}"
+        outcome = WAITS if outcome == NOT_DUE else f"{REFUSED}{outcome}"
     return day, record, what, outcome, *("" if own is None else grouped(own) for own in held)
 
 
@@ -108,7 +109,7 @@ def compliance(served: Served) -> Any:
     rows = own.once(("standings", year), office.journal.last_line, lambda: sorted(standings, key=standing.order))
     return show_page(
         "compliance", f"Compliance for {year}", year=year, rows=[*map(row_of_standing, rows)], columns=COLUMNS,
-        counts=standing.counts_table(rows) if rows else "", until=month.until_in_words(settled.head.date, deadline),
+        counts=standing.counts_table(rows) if rows else "", until=until_in_words(settled.head.date, deadline),
         missing=sum(own.missing or 0 for own in rows), date=settled.head.date,
         shown_row=lambda row: cells_of_standing(settled, row[-1]),
     )  # fmt: skip
@@ -134,8 +135,8 @@ def month_page(served: Served) -> Any:
     # (without a word, the month of the last day)
     begin, end = asked("from") or str(last.date.replace(day=1)), asked("to") or str(last.date)
     asked_for = {"year": number_asked("year"), "deadline": asked("deadline") or None}
-    title, count, parts = served.reading.month(begin=begin, end=end, **asked_for)
-    return show_page("month", title, count=count, own=parts, begin=begin, end=end)
+    title, lead, parts = served.reading.month(begin=begin, end=end, **asked_for)
+    return show_page("month", title, lead=lead, own=parts, begin=begin, end=end)
 
 
 def filters() -> dict[str, Any]:
@@ -169,8 +170,9 @@ def row_of_log(own: LogRow) -> tuple[Any, ...]:
 
 
 def cells_of_log(own: Reading, row: Sequence[Any]) -> Sequence[Any]:
-    """The cells of a log row, its day and its accounts with links."""
+    """The cells of a log row, its day and its accounts with links, and its users with their names."""
     day, record, said, named, by, outcome = row
+    by = ", ".join(map(own.names().user, by.split(", ")))
     accounts = Markup(", ".join(link(f"/accounts/{number}", number) for number in named.split(", ") if number))
     return link(f"/days/{day}", day), record, said, accounts, by, own.outcome(day, record, outcome)
 
@@ -212,9 +214,11 @@ def download(content: bytes, kind: str, name: str) -> Response:
 def journal(served: Served) -> Any:
     """The page of what was done in the folder, and changed by hand."""
     office = served.reading.office()
-    events = [(own.at, own.event, str(own.date), own.who, own.why) for own in reversed(office.journal.events)]
-    items = listing.items_of(office)
-    by_hand = [(day, own.part.at, own.part.who, own.part.name, item_in_words(own)) for day, own in items]
+    who = functools.partial(awaited.who_and_second, office)
+    events = [(own.at, own.event, str(own.date), who(own.who, own.login, own.approved), own.why)
+              for own in reversed(office.journal.events)]  # fmt: skip
+    by_hand = [(day, own.part.at, who(own.part.who, own.part.login, second), own.part.name, item_in_words(own))
+               for day, own, second in listing.items_of(office)]  # fmt: skip
     gone = [(day, *row_of_taken(own)) for day, own in taken.of_all(office)]
     return show_page("journal", "Journal", events=events, by_hand=[*reversed(by_hand)], taken=[*reversed(gone)])
 

@@ -14,21 +14,22 @@ from typing import Any, Callable, TypeVar
 
 from registry_tools.calendars.dates import date_of
 from registry_tools.errors import FileFault, WordsFault
-from registry_tools.office import close, composing, folder, handed, labels, lock, past, prepared, trial
+from registry_tools.office import close, composing, files, folder, handed, labels, lock, past, prepared, trial
 from registry_tools.office.composing import NextDay
 from registry_tools.office.folder import Office
 from registry_tools.office.journal import Event
 from registry_tools.office.labels import Labels
 from registry_tools.office.layout import JOURNAL, LABELS, SETTINGS
-from registry_tools.pages import indexed, month
+from registry_tools.office.waits import waiting_behind
+from registry_tools.pages import indexed, month, send
 from registry_tools.pages.account import own_parts
-from registry_tools.pages.html import Frame, Markup, joined
-from registry_tools.pages.rulebook import Rulebook
-from registry_tools.pages.settled import WAITS, ByHand, Settled, by_hand_before
+from registry_tools.pages.html import Frame, Markup, joined, link
+from registry_tools.pages.rulebook import Rulebook, link_to_check
+from registry_tools.pages.settled import REFUSED, WAITS, ByHand, Settled, by_hand_before
 from registry_tools.pages.statement import Statement
 from registry_tools.questions import find
+from registry_tools.texts.checks import checks
 from registry_tools.texts.day_text import DayText
-from registry_tools.texts.pending import read_pending, waiting_before
 from registry_tools.texts.report import LogRow
 
 T = TypeVar("T")
@@ -61,7 +62,7 @@ class Reading:
     def office(self) -> Office:
         """The folder with its journal, which is read again as soon as a file of them is another one."""
         path = folder.folder_of(str(self.path))
-        looks = " ".join(looks_of(path / name) for name in (SETTINGS, JOURNAL))
+        looks = " ".join(files.stamp_of(path / name) for name in (SETTINGS, JOURNAL))
         return replace(self.once("office", looks, lambda: folder.read_office(path)))
 
     def has_leftovers(self) -> bool:
@@ -118,7 +119,7 @@ class Reading:
 
     def state_of_names(self) -> str:
         """What all that tells of settled days depends on: the journal, and the names."""
-        return f"{self.office().journal.last_line} {looks_of(self.path / LABELS)}"
+        return f"{self.office().journal.last_line} {files.stamp_of(self.path / LABELS)}"
 
     # Settled days.
 
@@ -128,22 +129,32 @@ class Reading:
         event = office.journal.day_of(date) if date else office.last()
         if event is None:
             return None
-        state = f"{event.line} {looks_of(self.path / LABELS)}"
+        state = f"{event.line} {files.stamp_of(self.path / LABELS)}"
         return self.once(("settled", event.date), state, functools.partial(read_settled, office, event))
 
     def waits_until(self, date: datetime.date, record: int) -> str:
-        """Until when an instruction of a day waits: the next day's file of what waits says it, or the folder's."""
+        """Until when an instruction of a day waits, or waited."""
         office = self.office()
-        later = next((event for event in office.journal.filed() if event.date > date), None)
-        path = past.as_filed(office, later, "waiting") if later else office.next_folder / handed.WAITS
-        state = office.journal.last_line
-        waits = self.once(("waits", date), state, lambda: [own for own, _ in read_pending(str(path)).rows])
-        due = next((own.due or own.entered for own in waits if own.record == record), None)
-        return f"waits until {due.day} {due:%B} {due.year}" if due else "waits: the calendar has no due day"
+        waits = self.once(("waits", date), office.journal.last_line, lambda: waiting_behind(office, date))
+        due, last = next((own.due or own.entered for own in waits if own.record == record), None), office.last()
+        if due is None:
+            return "waits: the calendar has no due day"
+        return f"{'waited' if last and due <= last.date else 'waits'} until {due.day} {due:%B} {due.year}"
 
-    def outcome(self, day: str, record: int, outcome: str) -> str:
-        """What came of an instruction; of one that only waits, until when. (It is read: of rows that are shown.)"""
+    def outcome(self, day: str, record: int, outcome: str) -> object:
+        """What came of an instruction, as a shown row has it: of one that only waits, until when; its refusal leads to
+        the rules."""
+        if outcome.startswith(REFUSED):
+            name = outcome.removeprefix(REFUSED)
+            return Markup(REFUSED + link_to_check(checks()[name].code, name, "/"))
         return self.waits_until(date_of("the day", day), record) if outcome == WAITS else outcome
+
+    def came(self, date: datetime.date) -> str:
+        """What came of a day, by the index; nothing, if it cannot be read, which is told as a fault."""
+        with contextlib.suppress(FileFault):
+            (own,) = month.days_of_folder(self.asked().opened, date, date)
+            return f": {own.done} done, {own.refused.total()} refused, {own.waiting} waiting"
+        return ""
 
     def by_hand(self, date: datetime.date) -> ByHand:
         """What people changed before a settled day."""
@@ -178,11 +189,11 @@ class Reading:
         find.take_names(said, self.names())
         return [*find.in_folder(said, *past.span_of(said))], find.accounts_meant(said)
 
-    def month(self, **more: Any) -> tuple[str, int, list[Markup]]:
+    def month(self, **more: Any) -> tuple[str, str, list[Markup]]:
         """Several days together, as the page of ./day month has them."""
         said = self.asked(**more)
         key = ("month", said.begin, said.end, said.year, said.deadline)
-        return self.once(key, self.state_of_names(), lambda: month.parts_of(said, MOST_ROWS))
+        return self.once(key, self.state_of_names(), lambda: month.parts_of(said, MOST_ROWS, link))
 
     # The next day.
 
@@ -231,18 +242,9 @@ class Reading:
         return outcome, close.left_for_later(office.handed_in(), next_day.date)
 
 
-def looks_of(path: Path) -> str:
-    """What tells that a file is another one than before; nothing, if it is not there."""
-    if not path.exists():
-        return ""
-    own = path.stat()
-    return f"{own.st_mtime_ns} {own.st_ctime_ns} {own.st_size} {own.st_ino}"
-
-
 def read_settled(office: Office, event: Event) -> DeskSettled:
     """A settled day with its report and the names."""
     own = next(past.read_all([past.pair_of(office, event)]))
-    waits = read_pending(str(past.as_filed(office, event, "waiting")))
-    earlier = waiting_before(waits, own.day, own.report)
+    earlier = send.waiting_of(str(past.as_filed(office, event, "waiting")), own)
     names = labels.of_folder(office.path)
     return DeskSettled(own.day, own.report, Rulebook("/"), Frame([]), own.report.book.keys(), earlier, names)

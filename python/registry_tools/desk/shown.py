@@ -12,11 +12,11 @@ from registry_tools.desk import words
 from registry_tools.errors import WordsFault
 from registry_tools.office import taken, trial
 from registry_tools.pages.beside import item_in_words
-from registry_tools.pages.html import Markup, Table, joined, link, paragraph, tag, words_in_cell
+from registry_tools.pages.html import Markup, Table, joined, link, paragraph, sort_key, tag
 
 # The word of an address that only fills the form of a page with what was typed.
 TYPED = "typed"
-NUMBER, SIGNED = re.compile("[1-9][0-9]{0,8}", re.ASCII), re.compile("[-+]?[0-9]{1,30}")
+NUMBER = re.compile("[1-9][0-9]{0,8}", re.ASCII)
 # How many rows of a table a page shows, and how many pages are named beside it.
 ROWS, NEAR = 100, 4
 
@@ -65,13 +65,6 @@ def row_of_taken(own: taken.TakenBack) -> tuple[object, ...]:
     """What was taken back: its place, what it was or, behind the close, its file, who did it, when and why."""
     what = item_in_words(own.item) if own.item else f"a row of {own.part.name}" if own.part else ""
     return own.taken.place, what, own.taken.who, own.taken.at, own.taken.why
-
-
-def sort_key(cell: object) -> tuple[bool, int, str]:
-    """Numbers by what they are, and behind them words."""
-    text = words_in_cell(cell)
-    digits = text.replace(",", "")
-    return (False, int(digits), "") if SIGNED.fullmatch(digits) else (True, 0, text)
 
 
 def sorted_table(

@@ -6,7 +6,7 @@ from registry_tools.calendars.working_days import MORE_WORK
 from registry_tools.errors import escaped
 from registry_tools.office.incoming import EMPTY_TABLE
 from registry_tools.pages.html import markup
-from registry_tools.sheets.importing import OTHER_FORM
+from registry_tools.sheets.importing import OTHER_AMOUNTS, OTHER_FORM
 from registry_tools.sheets.table import OTHER_HEADINGS
 
 # What the fields of an instruction are called.
@@ -25,7 +25,7 @@ LAGS = {
 }  # fmt: skip
 # What messages say of words of commands, and what does the same here; the page of a command; and its options.
 AT_THE_DESK = {
-    OTHER_FORM: "another form is chosen with the file",
+    OTHER_FORM: "another form is chosen with the file", f"; {OTHER_AMOUNTS}": "",
     EMPTY_TABLE: "the page Hand in has empty tables", OTHER_HEADINGS: "the page Hand in has empty tables",
     MORE_WORK: "add working days (Change, the rules)", "--release releases it": "its box on the page Send releases it",
     "nothing to change: ./day change --help tells what can be": "nothing to change: the form says what is there",

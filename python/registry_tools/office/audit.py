@@ -71,14 +71,14 @@ def run(said: argparse.Namespace) -> int:
     for fault in journal.faults_of(there):
         audit.add(fault, mend=JOURNAL_BACK)
         audit.away = JOURNAL_FIRST
-    look_at_heads(audit, said)
+    heads = look_at_heads(audit, said)
     look_at_filed_files(audit)
     audit.add(*audit.office.changed_labels())
     look_at_next(audit)
     with index.there(audit.office) as database:
         look_at_days(audit, begin, said.settle, said.second, database)
     rows = map(showing.fault_row, audit.found)
-    told = [*map(str, audit.found), summary(audit), ""]
+    told = [*map(str, audit.found), summary(audit, heads), ""]
     showing.show_or_tell(said, COLUMNS, rows, lambda: "\n".join(told))
     tell_engines(there)
     tell_people(there)
@@ -110,31 +110,32 @@ def has_changed(there: Journal) -> bool:
     return files.bytes_in(there.path).decode("utf-8", "surrogateescape") != there.text
 
 
-def summary(audit: Audit) -> str:
-    """The last line, with the counts."""
+def summary(audit: Audit, heads: str) -> str:
+    """The last line, with the counts; `heads` counts those that were kept elsewhere."""
     path, there = audit.office.path, audit.office.journal
-    counts = f"events {len(there.events)}, days {len(there.filed())}, pairs read {audit.days}"
+    counts = f"events {len(there.events)}, days {len(there.filed())}, pairs read {audit.days}{heads}"
     return f"{path}: {counts}: {counted(len(audit.found), 'difference', 'differences')}"
 
 
 # Heads that were kept.
 
 
-def look_at_heads(audit: Audit, said: argparse.Namespace) -> None:
-    """Whether the journal has grown from each head that was kept elsewhere."""
+def look_at_heads(audit: Audit, said: argparse.Namespace) -> str:
+    """Whether the journal has grown from each head that was kept elsewhere: from how many it has, if there are any."""
     there, key = audit.office.journal, audit.office.settings.key
+    faults: list[FileFault | None] = []
     if said.date is not None and said.since is None:
         raise WordsFault("--date tells the last day of --since HEAD, which is not there")
     if said.since is not None:
         date = past.date_or("--date", said.date, None)
-        fault = anchors.not_grown(there, anchors.head_of(said.since), date)
-        audit.add(fault, mend=OTHER_FOLDER)
+        faults.append(anchors.not_grown(there, anchors.head_of(said.since), date))
     for line, anchor in anchors.read(said.anchors) if said.anchors is not None else ():
-        fault = anchors.not_grown(there, anchor.head, anchor.date)
-        audit.add(fault, mend=OTHER_FOLDER)
+        faults.append(anchors.not_grown(there, anchor.head, anchor.date))
         wrong = anchors.wrong_signature(anchor, key) if key else ""
         if wrong:
             audit.add(FileFault(said.anchors, line, "SIGNATURE", wrong, f"one by {key}"))
+    audit.add(*faults, mend=OTHER_FOLDER)
+    return f", grown from {faults.count(None)} of {counted(len(faults), 'head', 'heads')} kept" if faults else ""
 
 
 # Files.

@@ -51,3 +51,9 @@ def who_did(office: Office, who: str, login: str) -> str:
         return who
     own = office.people.in_words(login)
     return own if who in (people.person_of(login), people.owner_of(login)) else f"{who}, login {own}"
+
+
+def who_and_second(office: Office, who: str, login: str, approved: str) -> str:
+    """Who did something, and who approved it, if somebody had to."""
+    second = f", approved by {office.people.in_words(approved)}" if approved else ""
+    return f"{who_did(office, who, login)}{second}"

@@ -57,7 +57,8 @@ EXAMPLE = "./day close --date 2025-09-22 --second --office out/office"
 
 def add_words(parser: argparse.ArgumentParser) -> None:
     """Tells a parser the words of the command."""
-    parser.add_argument("--date", metavar="DATE", required=True, help="the settlement day")
+    without = "without it, the command says which one comes next"
+    parser.add_argument("--date", metavar="DATE", help=f"the settlement day; {without}")
     parser.add_argument("--verify", action="store_true", help="work out all accounts once more")
     parser.add_argument("--second", action="store_true", help="settle by the second answer, without the program")
     parser.add_argument("--yes", action="store_true", help="file it, whatever is to be looked at")
@@ -84,6 +85,8 @@ def run(said: argparse.Namespace) -> int:
         handed_in = office.handed_in()
         handed_in.remove_unnamed()
         date = composing.settlement_date(said.date, office, handed_in)
+        if said.date is None:
+            raise WordsFault(f"name the day: ./day close --date {date} closes the next one")
         mine, later = handed_in.until(date), [part for part in handed_in.parts if handed_in.is_left(part, date)]
         with composing.telling_the_way_out():
             left, composed = left_for_later(handed_in, date), composing.compose(office, mine, date)

@@ -78,6 +78,15 @@ def settlement_date(word: str | None, office: Office, handed_in: HandedIn) -> da
     return following
 
 
+def ways_on(office: Office, handed_in: HandedIn, date: datetime.date) -> str:
+    """What to say of a date that cannot be the next one: who closed it, which one comes next, and what takes the last
+    one back."""
+    last, event = last_day(office), office.journal.day_of(date)
+    closed = f": {event.who} closed {date} at {event.at}" if event else ""
+    back = "" if office.journal.is_released() else f", and ./day undo {last.date} takes the last one back"
+    return f"{closed}; the next one is {settlement_date(None, office, handed_in)}{back}"
+
+
 def working_days(office: Office, last: Event, handed_in: HandedIn) -> list[datetime.date]:
     """The calendar with the working days that were handed in."""
     new = [datetime.date.fromisoformat(item.rows[0].split(",")[1]) for item in handed_in.items(WORK)]
@@ -157,7 +166,7 @@ def later_day(office: Office, handed_in: HandedIn, date: datetime.date) -> NextD
     last = last_day(office)
     day, report = last_pair(office, has_book=False)
     if date <= last.date:
-        raise WordsFault(f"--date {date} is not later than {last.date}, the last day")
+        raise WordsFault(f"--date {date} is not later than {last.date}, the last day{ways_on(office, handed_in, date)}")
     contents = contents_of(handed_in)
     with tempfile.TemporaryDirectory() as work:
         paths = {kind: written(Path(work) / f"{kind}.csv", content) for kind, content in contents.items()}
@@ -173,7 +182,7 @@ def later_day(office: Office, handed_in: HandedIn, date: datetime.date) -> NextD
         except EditFault as fault:
             place = next((item.place for item in handed_in.items(EDITS) if item.rows[0] == fault.edit.row()), None)
             raise EditFault(fault.edit, fault.why, place) from None
-        composed.notes = [merged.path.sub(merged.named, note) for note in composed.notes]
+        composed.notes = [*map(merged.named_in, composed.notes)]
     return replace(composed, new=[*handed_in.items(DO)], contents=contents, before=(day, report))
 
 

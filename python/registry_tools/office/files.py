@@ -27,6 +27,14 @@ def sum_of(content: bytes) -> str:
     return hashlib.sha256(content).hexdigest()
 
 
+def stamp_of(path: Path) -> str:
+    """What tells that a file is another one than before, without reading it; nothing, if it is not there."""
+    if not path.exists():
+        return ""
+    own = path.stat()
+    return f"{own.st_mtime_ns} {own.st_ctime_ns} {own.st_size} {own.st_ino}"
+
+
 def compressed(content: bytes) -> bytes:
     """Bytes packed by gzip, the same on each machine and day."""
     buffer = io.BytesIO()

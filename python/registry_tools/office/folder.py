@@ -29,7 +29,7 @@ from registry_tools.office.settings import Settings
 from registry_tools.office.sources import Source
 
 # What to do about a filed file that is not as it was filed.
-PUT_BACK = "put it back as it was filed: ./day mend DATE may make it again, or a copy has it"
+PUT_BACK = "put it back as it was filed"
 LABEL_BY_HAND = "label --by-hand --why WORDS"
 # The variable that names the folder for whoever stands in none, and names none.
 VARIABLE = "REGISTRY_OFFICE"
@@ -94,11 +94,12 @@ class Office:
     def changed_file(self, event: Event, key: str) -> FileFault | None:
         """Whether a file of a day is another one than was filed: what is wrong with it, and what to do."""
         path, filed = self.file(event, key), event.sums.get(key)
+        back = f"{PUT_BACK}: ./day mend {event.date} may make it again, or a copy has it"
         try:
             there = files.sum_of(files.bytes_in(path))
         except FileFault as fault:
-            return of_file(path, f"{fault.found}; {PUT_BACK}")
-        expected = f"{filed}, as {self.journal.path} says: somebody changed it; {PUT_BACK}"
+            return of_file(path, f"{fault.found}; {back}")
+        expected = f"{filed}, as {self.journal.path} says: somebody changed it; {back}"
         return None if there == filed else FileFault(path, 0, "SHA-256", there, expected)
 
     def strange_files(self, event: Event) -> Iterator[FileFault]:

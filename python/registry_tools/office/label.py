@@ -63,7 +63,9 @@ def run(said: argparse.Namespace) -> int:
         rows = sorted(labels.of_folder(office.path).named.values(), key=lambda own: (own.kind, int(own.number)))
         showing.show(said, LISTED, [cells_of(said, label) for label in rows])
         return 0
-    why, asked = words.one_line("--why", said.why or ""), [*asked_of(said)]
+    if said.why is None:
+        raise WordsFault("--why is needed: it is kept with the name")
+    why, asked = words.one_line("--why", said.why), [*asked_of(said)]
     with words.changing(said, "label") as office:
         told = take_over(office, why) if said.by_hand else keep(office, asked, why)
     print("\n".join(told))

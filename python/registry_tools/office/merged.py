@@ -6,6 +6,7 @@ from pathlib import Path
 from typing import Iterator
 
 from registry_tools.errors import FileFault, WordsFault, shown
+from registry_tools.notes import LOOK
 from registry_tools.office import files
 from registry_tools.office.changes import edits
 from registry_tools.office.changes.edits import Edit
@@ -46,10 +47,16 @@ class Merged:
         rows = self.rows.get(path, [])
         return rows[line - 1] if 0 < line <= len(rows) else (None, 0)
 
-    def named(self, found: re.Match[str]) -> str:
-        """The file and the line from which a place of the merged file came."""
-        name, line = self.origin(found[1], int(found[2] or 0))
-        return f"{name}:{line}" if line else name
+    def named_in(self, note: str) -> str:
+        """A note with the files that were handed in; one that asks somebody to look at a row has its place, too, by
+        which it is taken back."""
+
+        def where(found: re.Match[str]) -> str:
+            (name, line), (item, _) = (own(found[1], int(found[2] or 0)) for own in (self.origin, self.item))
+            place = f" (place {item.place})" if item and note.startswith(LOOK) else ""
+            return f"{name}:{line}{place}" if line else name
+
+        return self.path.sub(where, note)
 
 
 def written(path: Path, content: bytes) -> str | None:

@@ -2,13 +2,14 @@
 paths. The words stay as they are given: where they name a day, the parser of the command has no paths to read, and what
 it read is looked up in the folder."""
 import argparse
+import contextlib
 import itertools
 import os
 import re
 from typing import Any
 
 from registry_tools.calendars.dates import DATE, date_of, is_date
-from registry_tools.errors import WordsFault
+from registry_tools.errors import FileFault, WordsFault
 from registry_tools.office import folder, past
 from registry_tools.office.folder import Office
 from registry_tools.office.journal import Event
@@ -45,6 +46,7 @@ def add_words(name: str, parser: Words) -> None:
     """Tells the parser of a command the words by which a day is named. Where no day is named they are only told."""
     if name not in TAKES:
         return
+    parser.in_place = in_place_of_paths
     group = parser.add_argument_group("of a folder of days, in place of paths")
     if parser.names_day:
         of_one = "*" if TAKES[name] == REPORTS else "?"
@@ -54,19 +56,29 @@ def add_words(name: str, parser: Words) -> None:
     group.add_argument(OFFICE, metavar="FOLDER", dest="_office", default=None, help=folder.WHERE)
 
 
+def in_place_of_paths(word: str | None = None) -> str:
+    """The last day of a folder, as it is named where paths lack; nothing, if there is none."""
+    with contextlib.suppress(WordsFault, FileFault):
+        last = folder.read_office(folder.folder_of(word)).last()
+        return f"; {DAY} {last.date} names the last day of the folder" if last else ""
+    return ""
+
+
 def is_named(name: str, arguments: list[str]) -> bool:
     """Whether words name a day of a folder. Behind `--day` of a log there may be paths of day texts, too. Raises
     WordsFault if they name a folder and no day."""
     given = [*itertools.takewhile(lambda word: word != "--", arguments)]
     if name not in TAKES or {"-h", "--help"} & {*given}:
         return False
-    has_office = any(word.partition("=")[0] == OFFICE for word in given)
+    parted = ((word.partition("="), behind) for word, behind in itertools.pairwise([*given, ""]))
+    offices = [value or behind for (option, _, value), behind in parted if option == OFFICE]
     place = next((place for place, word in enumerate(given) if word.partition("=")[0] == DAY), None)
     if place is None:
-        if has_office:
-            raise WordsFault(f"{OFFICE} FOLDER stands with {DAY} DATE, in place of paths")
+        if offices:
+            last = in_place_of_paths(offices[0])
+            raise WordsFault(f"{OFFICE} FOLDER stands with {DAY} DATE, in place of paths{last}")
         return False
-    if TAKES[name] != REPORTS or has_office:
+    if TAKES[name] != REPORTS or offices:
         return True
     _, has_value, value = given[place].partition("=")
     word = value if has_value else "".join(given[place + 1 : place + 2])

@@ -198,7 +198,7 @@ def about_date(
         yield f"{date:%A} {date} is no working day by the calendar"
     between = [skipped for skipped in calendar if before and before < skipped < date]
     if between:
-        yield f"working days that have no text: {days_in_words(between)}"
+        yield f"working days that are passed over: {days_in_words(between)}"
 
 
 def next_head(

@@ -68,7 +68,7 @@ def run(said: argparse.Namespace) -> int:
 def told_of(office: Office, handed_in: HandedIn, faults: list[FileFault], may_be_coloured: bool) -> str:
     """What people are told."""
     names = labels.of_folder(office.path)
-    lines = [*last_lines(office), *waiting_lines(office, names), *handed_lines(handed_in, names)]
+    lines = [*last_lines(office, handed_in), *waiting_lines(office, names), *handed_lines(handed_in, names)]
     lines += [*second_lines(office, handed_in), *lock_lines(office)]
     bold, red, plain = (BOLD, RED, PLAIN) if may_be_coloured and is_coloured() else ("", "", "")
     told = [f"{bold}{name}:{plain} {what}" if name else f"  {what}" for name, what in lines]
@@ -100,11 +100,13 @@ def rows_for_programs(office: Office, handed_in: HandedIn, faults: list[FileFaul
         yield [FAULT, None, None, None, None, None, str(fault)]
 
 
-def last_lines(office: Office) -> Iterator[tuple[str, str]]:
+def last_lines(office: Office, handed_in: HandedIn) -> Iterator[tuple[str, str]]:
     """What is told of the last day."""
-    last = office.last()
+    last, first = office.last(), handed_in.first_text()
+    if first:
+        settles = streams.by_name(f"./day close --date {first.head.date} settles the first text")
+        yield "last day", f"none is settled yet; {settles}"
     if last is None:
-        yield "last day", "none is settled yet"
         return
     not_released = streams.by_name(f"not released: ./day undo {last.date} takes it back")
     released = "released" if office.journal.is_released() else not_released
@@ -116,7 +118,7 @@ def last_lines(office: Office) -> Iterator[tuple[str, str]]:
     yield "head", office.journal.head
     today = datetime.date.today()
     passed = missed_days(office)
-    yield "since then", counted((today - last.date).days, "day", "days") if today > last.date else "no day"
+    yield "since then", counted((today - last.date).days, "day", "days") if today > last.date else "no day has passed"
     if passed:
         yield "working days without a settlement", days_in_words(passed)
     for date, what in next_dates(office, MOST_SOON):

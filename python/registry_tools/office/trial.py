@@ -22,8 +22,7 @@ from registry_tools.office import composing, files, folder, handed, labels, word
 from registry_tools.office.composing import NextDay
 from registry_tools.office.labels import Labels
 from registry_tools.second import rules
-from registry_tools.texts import in_words
-from registry_tools.texts.checks import advice_for, checks
+from registry_tools.texts import checks, in_words
 from registry_tools.texts.day_text import DayText
 
 EXAMPLE = "./day try --office out/office"
@@ -120,8 +119,7 @@ def tell(looked: list[Looked], next_day: NextDay, places: set[int] | None = None
 
 def whys(looked: list[Looked]) -> dict[str, str]:
     """Of each check that refuses one of these, what it means and what to do."""
-    names = dict.fromkeys(tried.outcome for tried in looked if tried.is_refused)
-    return {name: f"{checks()[name].meaning} {advice_for(name)}" for name in names}
+    return checks.meanings(tried.outcome for tried in looked if tried.is_refused)
 
 
 # What was seen at the last look.

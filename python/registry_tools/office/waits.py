@@ -4,7 +4,7 @@ from pathlib import Path
 
 from registry_tools.calendars.due_days import due_day_after, head_after
 from registry_tools.notes import Notes
-from registry_tools.office import files, handed, next as next_day
+from registry_tools.office import files, handed, next as next_day, past
 from registry_tools.office.folder import Office
 from registry_tools.texts import pending
 from registry_tools.texts.day_text import DayText
@@ -16,6 +16,13 @@ def waits_of(office: Office) -> list[pending.Waiting]:
     filed."""
     path = office.next_folder / handed.WAITS
     return pending.read_waits(str(path)) if path.exists() else []
+
+
+def waiting_behind(office: Office, date: datetime.date) -> list[pending.Waiting]:
+    """What waited behind a settled day: the file of the next one says it, or the folder's."""
+    later = next((event for event in office.journal.filed() if event.date > date), None)
+    path = past.as_filed(office, later, "waiting") if later else office.next_folder / handed.WAITS
+    return [own for own, _ in pending.read_pending(str(path)).rows]
 
 
 def write_waits(folder: Path, day: DayText, report: Report, waits: str) -> None:

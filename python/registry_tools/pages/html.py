@@ -7,6 +7,7 @@ from pathlib import Path
 
 SPECIAL = re.compile("[&<>\"']")
 TAGS = re.compile("<[^>]*>")
+SIGNED = re.compile("[-+]?[0-9]{1,30}")
 # A table with so few letters beside each other fits everywhere. The rows of another one are stacked, with the name of
 # the column before each cell, where the window is too narrow: by the class of the table, for how many letters it is,
 # and in which windows. The rows of a table with still more letters are stacked everywhere.
@@ -86,6 +87,13 @@ def facts(pairs: Iterable[tuple[object, object]]) -> Markup:
 def words_in_cell(cell: object) -> str:
     """The words of a cell."""
     return TAGS.sub("", cell) if type(cell) is Markup else str(cell)
+
+
+def sort_key(cell: object) -> tuple[bool, int, str]:
+    """Numbers by what they are, and behind them words."""
+    text = words_in_cell(cell)
+    digits = text.replace(",", "")
+    return (False, int(digits), "") if SIGNED.fullmatch(digits) else (True, 0, text)
 
 
 def letters_of(columns: Sequence[str], right: Collection[str], rows: Sequence[Cells]) -> int:

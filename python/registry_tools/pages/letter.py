@@ -10,13 +10,14 @@ from registry_tools.pages.account import entry_parts, facts_of, refused_parts, s
 from registry_tools.pages.html import HEAD, PARTS, Cells, Markup, Table, heading, joined, style_of, tag
 from registry_tools.pages.rulebook import Rulebook
 from registry_tools.pages.settled import Settled, long_date
-from registry_tools.pages.statement import DayTold, Own, Statement
+from registry_tools.pages.statement import OF_ANOTHER, DayTold, Own, Statement
 from registry_tools.texts.checks import Check, without_marks
 from registry_tools.texts.own import OwnRow
 from registry_tools.texts.report import LogRow
 
 DONE_LATER = Table(["Asked for on", "Record", "Instruction", "Why not then", "Done on", "As record"])
 NOT_DUE_YET = "It was not due yet."
+KEPT = "Keep this page: by its head an auditor sees whether a day up to it was changed later."
 # What the registry's own words are called in a letter.
 IN_A_LETTER = {
     "FROM": "the account that gives", "TO": "the account that receives", "ACCOUNT": "the account",
@@ -38,7 +39,7 @@ ADVICE = {
 }
 STYLE = (
     "@page{size:A4;margin:18mm 15mm 20mm;@bottom-center{content:counter(page) ' / ' counter(pages)}}"
-    "table.sheet{width:100%;border:0}"
+    "table.sheet{width:100%;border:0}p.sum{overflow-wrap:anywhere}"
     "table.sheet>thead>tr>td,table.sheet>tbody>tr>td{border:0;padding:0;background:none}"
     "table.sheet>thead>tr>td{padding-bottom:.6rem;font-weight:600}"
     "@media screen{table.sheet,table.sheet>*,table.sheet>*>tr,table.sheet>*>tr>td{display:block}"
@@ -80,6 +81,8 @@ class LetterStatement(Statement):
         # The tries of what was not done, by its fields: it is the same instruction if all of them are the same.
         self.asked: dict[tuple[str, ...], list[list[LogRow]]] = {}
         self.done_later: list[Cells] = []
+        # What waits behind the last day and is of others, as far as the own statement tells it.
+        self.of_others: list[Cells] = []
         super().__init__(settled, number, days)
 
     def take(self, date: datetime.date, own_row: OwnRow) -> None:
@@ -94,6 +97,13 @@ class LetterStatement(Statement):
                 equal.append([*tries, logged])
         if logged.name != NOT_DUE:
             super().take(date, own_row)
+        elif not own_row.is_whole and date == self.days[-1].date:
+            self.of_others.append((logged.record, OF_ANOTHER, "", ""))
+
+    def waiting(self) -> Iterator[Cells]:
+        """What waits of this account with its due day, and that something of others waits."""
+        yield from super().waiting()
+        yield from self.of_others
 
     def tell_done_later(self, before: list[LogRow], date: datetime.date, done: LogRow) -> None:
         """Takes what was refused and is done now out of the refusals."""
@@ -133,13 +143,18 @@ def parts_of(settled: Settled, statement: LetterStatement) -> Iterator[Markup]:
     yield from standing_parts(settled, account, statement)
 
 
-def section_of(settled: Settled, statement: LetterStatement, holder: str, is_taken_over: bool) -> Markup:
-    """An account: its number and holder stand at the head of each page on which it is printed."""
+def section_of(
+    settled: Settled, statement: LetterStatement, holder: str, is_taken_over: bool, table: tuple[str, str]
+) -> Markup:
+    """An account: its number and holder stand at the head of each page on which it is printed. Its last line tells the
+    name of its statement as a table, and the sum of that."""
     own = settled.names.name_of(ACCOUNT, statement.number)
     name = ", ".join(filter(None, [f"Account {statement.number}", own, holder]))
     since = f"This account has had another holder: its statement begins on {long_date(statement.first_day)}."
     lead = [tag("p", since)] if is_taken_over else []
-    content = joined(tag("h2", f"Account {statement.number}"), *lead, *parts_of(settled, statement))
+    name_of_table, sum_of_table = table
+    told = tag("p", f"The statement as a table: {name_of_table}, whose SHA-256 is {sum_of_table}.", class_="sum")
+    content = joined(tag("h2", f"Account {statement.number}"), *lead, *parts_of(settled, statement), told)
     head = f"<thead><tr><td>{tag('span', name)}</td></tr></thead>"
     sheet = f"<table class='sheet'>{head}<tbody><tr><td>{content}</td></tr></tbody></table>"
     return Markup(f"<section>{sheet}</section>")
@@ -153,17 +168,20 @@ def page_of(title: str, lead: str, sections: list[Markup]) -> str:
     return f"{head}<body>\n{body}\n</body>\n</html>\n"
 
 
-def letter(settled: Settled, days: Sequence[DayTold], holder: int, places: dict[int, int], head: str) -> str:
-    """The page of a holder: each account from the day at its place on; and the head of the folder that it was made
-    of."""
+def letter(
+    settled: Settled, days: Sequence[DayTold], holder: int, places: dict[int, int], head: str,
+    tables: dict[int, tuple[str, str]],
+) -> str:  # fmt: skip
+    """The page of a holder: each account from the day at its place on, with the name and the sum of its table; and the
+    head of the folder that it was made of."""
     name = settled.names.holder(holder)
     sections = []
     for number, place in places.items():
         statement = LetterStatement(settled, number, days[place:])
-        sections.append(section_of(settled, statement, name, place > 0))
+        sections.append(section_of(settled, statement, name, place > 0, tables[number]))
     begin, end = days[0].date, days[-1].date
     lead = f"From {long_date(begin)} to {long_date(end)}." if begin != end else f"{long_date(end)}."
-    return page_of(f"Holder {name}", f"{lead} {head_in_words(head)}".rstrip(), sections)
+    return page_of(f"Holder {name}", f"{lead} {head_in_words(head)}{f' {KEPT}' if head else ''}".rstrip(), sections)
 
 
 def head_in_words(head: str) -> str:

@@ -1,5 +1,5 @@
 """Makes one page of several days for a director: how many operators are compliant, who is missing how much until which
-deadline, the totals as lines over the days, what was refused and why, and what was changed by hand.
+deadline, the totals as lines over the days, what was refused and why, what waits, and what was changed by hand.
 
 FILE is an HTML page that leads nowhere and prints. Compliance is that of --year; without it, of the last year of the
 current period that is over. No rule of a day text tells a deadline: --deadline names it, or office.ini.
@@ -9,7 +9,7 @@ import argparse
 import datetime
 from collections import Counter
 from dataclasses import dataclass
-from typing import Any, Iterator
+from typing import Iterator
 
 from registry_tools.calendars.deadlines import DueDates
 from registry_tools.calendars.due_days import NOT_DUE
@@ -17,35 +17,36 @@ from registry_tools.errors import WordsFault
 from registry_tools.office import index, naming, past
 from registry_tools.office.asking import hand_changes
 from registry_tools.office.folder import Office
+from registry_tools.office.journal import UNDONE
 from registry_tools.office.labels import Labels
 from registry_tools.office.past import PastDay
+from registry_tools.office.waits import waiting_behind
 from registry_tools.options import is_same_file
 from registry_tools.output import NewFile
 from registry_tools.pages import letter
 from registry_tools.pages.account import chart
-from registry_tools.pages.compliance import bar
-from registry_tools.pages.html import Markup, Table, facts, heading, paragraph
+from registry_tools.pages.beside import words_of_row
+from registry_tools.pages.html import Markup, Table, heading, paragraph
+from registry_tools.pages.month_standing import Way, compliance_parts, first_rows_of, no_way
 from registry_tools.pages.plan import figure
-from registry_tools.pages.settled import OUTCOMES, count_of, kind_of, long_date
-from registry_tools.questions.compliance import COMPLIANT, MISSING, NO_EMISSIONS, Standing, last_year_over, standings
+from registry_tools.pages.settled import NO_DUE_DAY, OUTCOMES, count_of, kind_of, long_date
 from registry_tools.second import rules
 from registry_tools.texts import changes as by_hand
 from registry_tools.texts.books import sums_of
 from registry_tools.texts.changes import HandChange
 from registry_tools.texts.checks import checks
-from registry_tools.texts.in_words import grouped
+from registry_tools.texts.in_words import grouped, instruction_in_words
+from registry_tools.texts.pending import Waiting
 
 EXAMPLE = "./day month out/september.html --from 2025-09-01 --deadline 2025-09-30 --office out/office"
 REFUSALS = Table(["Refused", "How often", "Why"], ("How often",))
-MISSED = Table(["Account", "Holder", "Surrendered of emissions", "Missing", "Until"], ("Missing",))
 BY_HAND = Table(["Day", "Account", "Change"])
 OF_RULES, WORK = "the rules", "work,"
 KIND_COLUMNS = [f"{kind.capitalize()} allowances" for kind in rules.KINDS]
 NUMBERS_OF_DAY = (*map(str.capitalize, OUTCOMES), *KIND_COLUMNS)
 DAYS = Table(["Day", *NUMBERS_OF_DAY], NUMBERS_OF_DAY)
+WAITING = Table(["Due", "Record", "Instruction"])
 NOTHING = "Nothing."
-
-
 def add_words(parser: argparse.ArgumentParser) -> None:
     """Tells a parser the words of the command."""
     parser.add_argument("file", metavar="FILE", help="the page that is written")
@@ -54,64 +55,6 @@ def add_words(parser: argparse.ArgumentParser) -> None:
     parser.add_argument("--year", type=int, metavar="Y", help="the year of compliance")
     parser.add_argument("--deadline", metavar="DATE", help="until when what is missing has to be surrendered")
     past.add_words(parser)
-
-
-def compliance_parts(
-    last: PastDay, named: int | None, deadline: datetime.date | None, due: DueDates, names: Labels, most: int | None
-) -> Iterator[Markup]:
-    """How operators stand after the last day, for the named year or the last one that is over. Where emissions are
-    missing nobody knows, and that is said. Without a named deadline it is that of the office. At most so many
-    operators are shown."""
-    yield heading("Compliance")
-    try:
-        year = last_year_over(last.day.head) if named is None else named
-    except WordsFault:
-        yield paragraph("No year of the current period is over.")
-        return
-    rows = [*standings(last.day, last.report, year)]
-    yield compliance_facts(rows, year)
-    unsettled = [row for row in rows if row.missing or row.verdict == NO_EMISSIONS]
-    lacking = sorted(unsettled, key=lambda row: (-(row.missing or 0), row.account.number))
-    if lacking:
-        until = until_in_words(last.date, deadline or due.surrender_of(year))
-        whose = ((names.account(row.account.number), names.holder(row.account.holder), row) for row in lacking)
-        own = [(account, holder, bar(row), missing_of(row), until) for account, holder, row in whose]
-        yield from first_rows_of(MISSED, f"Who is missing how much for {year}", own, most)
-
-
-def compliance_facts(rows: list[Standing], year: int) -> Markup:
-    """The share of compliant operators, and the sums."""
-    count = Counter(row.verdict for row in rows)
-    missing, debtors = sum(row.missing or 0 for row in rows), sum(bool(row.missing) for row in rows)
-    # (of an excluded account without them nobody knows either)
-    known = [row for row in rows if not row.years_without_emissions]
-    return facts([
-        ("Year", year),
-        ("Operators", len(rows)),
-        ("Compliant", f"{count[COMPLIANT]} of {len(rows)}"),
-        ("Missing allowances", f"{grouped(missing)}, of {count_of(debtors, 'operator', 'operators')}"),
-        ("Without emissions of some year", count[NO_EMISSIONS]),
-        ("Others", sum(count.values()) - count[COMPLIANT] - count[MISSING] - count[NO_EMISSIONS]),
-        ("Surrendered", f"{grouped(sum(row.surrendered for row in known))}, by those whose emissions are known"),
-        ("Emissions", f"{grouped(sum(row.emissions for row in known))}, of the same"),
-    ])  # fmt: skip
-
-
-def missing_of(standing: Standing) -> str:
-    """What an operator lacks."""
-    if standing.verdict == NO_EMISSIONS:
-        return f"not known: no emissions of {', '.join(map(str, standing.years_without_emissions))}"
-    return grouped(standing.missing or 0)
-
-
-def until_in_words(last: datetime.date, deadline: datetime.date | None) -> str:
-    """The deadline, and how far it is from the last day."""
-    if deadline is None:
-        return "no deadline is named"
-    days = (deadline - last).days
-    if days < 0:
-        return f"{deadline}, which is over"
-    return f"{deadline}, in {count_of(days, 'day', 'days')}" if days else f"{deadline}, today"
 
 
 @dataclass
@@ -163,7 +106,7 @@ def days_of_folder(office: Office, begin: datetime.date, end: datetime.date) -> 
     return [*days.values()]
 
 
-def totals_parts(days: list[DayOfMonth]) -> Iterator[Markup]:
+def totals_parts(days: list[DayOfMonth], way: Way) -> Iterator[Markup]:
     """How many allowances there are, held and surrendered together, after each day."""
     yield heading("Allowances")
     balances: list[tuple[object, dict[str, int]]] = [(day.date, day.allowances) for day in days]
@@ -174,7 +117,8 @@ def totals_parts(days: list[DayOfMonth]) -> Iterator[Markup]:
         (day, (day.done, day.refused.total(), day.waiting, *(day.allowances[kind] for kind in rules.KINDS)))
         for day in days
     )
-    yield DAYS.of("Each day, and what there is after it", [(day.date, *map(grouped, own)) for day, own in numbers])
+    rows = [(way(f"/days/{day.date}", day.date), *map(grouped, own)) for day, own in numbers]
+    yield DAYS.of("Each day, and what there is after it", rows)
 
 
 def refusal_parts(days: list[DayOfMonth]) -> Iterator[Markup]:
@@ -188,34 +132,52 @@ def refusal_parts(days: list[DayOfMonth]) -> Iterator[Markup]:
     yield REFUSALS.of("By reason", rows)
 
 
-def hand_rows(days: list[DayOfMonth], names: Labels) -> Iterator[tuple[datetime.date, str, str]]:
+def still_waiting(waiting: list[Waiting], names: Labels, most: int | None) -> Iterator[Markup]:
+    """What waits behind the last day, at most so many."""
+    yield heading("Waiting")
+    due = sorted(((str(own.due or own.entered or NO_DUE_DAY), own) for own in waiting), key=lambda pair: pair[0])
+    rows = [(day, own.record or "", instruction_in_words(own.instruction, names.account)) for day, own in due]
+    if rows:
+        yield from first_rows_of(WAITING, "What waits behind the last day", rows, most)
+    else:
+        yield paragraph(NOTHING)
+
+
+def lead_of(days: list[DayOfMonth], office: Office | None, waiting: list[Waiting]) -> str:
+    """What came of the days, in a line: of a folder also what waits behind them, and how often one was taken back."""
+    done, refused = sum(day.done for day in days), sum(day.refused.total() for day in days)
+    waits, back = "", 0
+    if office:
+        waits = f", waiting {grouped(len(waiting))}"
+        span = days[0].date, days[-1].date
+        back = sum(own.event == UNDONE and span[0] <= own.date <= span[1] for own in office.journal.events)
+    taken = f" Closings taken back: {back}." if back else ""
+    return f"Days: {len(days)}. Done {grouped(done)}, refused {grouped(refused)}{waits}.{taken}"
+
+
+def hand_rows(days: list[DayOfMonth], names: Labels, way: Way) -> Iterator[tuple[object, object, str]]:
     """What people changed before each of the days. Of a calendar, only how many days came or went."""
     for day in days:
         for sign, what in ((by_hand.GONE, "no working days any more"), (by_hand.NEW, "new working days")):
             rows = [change.row for change in day.changes if change.sign == sign]
             dates = [row.removeprefix(WORK) for row in rows if row.startswith(WORK)]
             if dates:
-                yield day.date, OF_RULES, f"{sign} {what}: {len(dates)}, from {dates[0]} to {dates[-1]}"
+                words = f"{sign} {what}: {len(dates)}, from {dates[0]} to {dates[-1]}"
+                yield way(f"/days/{day.date}", day.date), OF_RULES, words
         own = (change for change in day.changes if not change.row.startswith(WORK))
         for change in own:
-            yield day.date, names.account(change.account) if change.account else OF_RULES, change.words
+            of = way(f"/accounts/{change.account}", names.account(change.account)) if change.account else OF_RULES
+            yield way(f"/days/{day.date}", day.date), of, f"{change.sign} {words_of_row(change.row)}"
 
 
-def hand_parts(days: list[DayOfMonth], names: Labels, most: int | None) -> Iterator[Markup]:
+def hand_parts(days: list[DayOfMonth], names: Labels, most: int | None, way: Way) -> Iterator[Markup]:
     """The changes by hand, at most so many."""
     yield heading("Changes by hand")
-    rows = [*hand_rows(days, names)]
+    rows = [*hand_rows(days, names, way)]
     if rows:
         yield from first_rows_of(BY_HAND, "Rows that people changed", rows, most)
     else:
         yield paragraph(NOTHING)
-
-
-def first_rows_of(table: Table, caption: str, rows: list[Any], most: int | None) -> Iterator[Markup]:
-    """A table of at most so many rows, and how many more there are."""
-    yield table.of(caption, rows[:most])
-    if most is not None and len(rows) > most:
-        yield paragraph(f"And {grouped(len(rows) - most)} more.")
 
 
 def days_of(said: argparse.Namespace, begin: datetime.date, end: datetime.date) -> tuple[list[DayOfMonth], PastDay]:
@@ -236,16 +198,20 @@ def days_of(said: argparse.Namespace, begin: datetime.date, end: datetime.date) 
     return days, last
 
 
-def parts_of(said: argparse.Namespace, most: int | None = None) -> tuple[str, int, list[Markup]]:
-    """What stands on the page: its title, how many days it tells of, and its parts, with at most so many rows in a
-    table."""
+def parts_of(
+    said: argparse.Namespace, most: int | None = None, way: Way = no_way
+) -> tuple[str, str, list[Markup]]:
+    """What stands on the page: its title, its first line, and its parts, with at most so many rows in a table."""
     days, last = days_of(said, *past.span_of(said))
     deadline = past.date_or("--deadline", said.deadline, None)
-    due = DueDates() if said.pairs else past.office_of(said).settings.due
-    names = naming.known_to(said)
-    compliance = compliance_parts(last, said.year, deadline, due, names, most)
-    parts = [*compliance, *totals_parts(days), *refusal_parts(days), *hand_parts(days, names, most)]
-    return f"{long_date(days[0].date)} to {long_date(days[-1].date)}", len(days), parts
+    office = None if said.pairs else past.office_of(said)
+    due, names = office.settings.due if office else DueDates(), naming.known_to(said)
+    waiting = waiting_behind(office, last.date) if office else []
+    compliance = compliance_parts(last, said.year, deadline, due, names, most, way)
+    parts = [*compliance, *totals_parts(days, way), *refusal_parts(days)]
+    parts += still_waiting(waiting, names, most) if office else []
+    parts += hand_parts(days, names, most, way)
+    return f"{long_date(days[0].date)} to {long_date(days[-1].date)}", lead_of(days, office, waiting), parts
 
 
 def run(said: argparse.Namespace) -> int:
@@ -253,8 +219,8 @@ def run(said: argparse.Namespace) -> int:
     pairs = past.pairs_of(said, *past.span_of(said))
     if any(is_same_file(path, said.file) for pair in pairs for path in (pair.day, pair.report)):
         raise WordsFault(f"{said.file} is one of the files that the command reads")
-    title, count, parts = parts_of(said)
+    title, lead, parts = parts_of(said)
     head = "" if said.pairs else letter.head_in_words(past.office_of(said).journal.head)
-    NewFile(said.file, letter.page_of(title, f"Days: {count}. {head}".rstrip(), parts)).keep()
-    print(f"{said.file}: days {count}")
+    NewFile(said.file, letter.page_of(title, f"{lead} {head}".rstrip(), parts)).keep()
+    print(f"{said.file}: days {lead.removeprefix('Days: ').partition('.')[0]}")
     return 0

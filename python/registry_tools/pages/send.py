@@ -7,9 +7,9 @@ the statements begin on an earlier day: what was not due or was refused then, an
 An account that had another holder on one of these days begins with the first day of its holder of the last one; the
 statement of the other holder is made with --day.
 Names are those of the folder of days (./day label), or of the file of --labels: rows user,NUMBER,NAME,
-holder,NUMBER,NAME and account,NUMBER,NAME, in UTF-8. A letter tells the head of the folder, and names no account but
-its holder's. With --pairs the days are those of paths, and the file of
---pending says what waits since earlier ones.
+holder,NUMBER,NAME and account,NUMBER,NAME, in UTF-8. A letter tells the head of the folder, by which ./day audit
+--since sees later whether days were changed, and the SHA-256 of each csv; it names no account but its holder's. With
+--pairs the days are those of paths, and the file of --pending says what waits since earlier ones.
 
 A day that is not released is told, since it may be undone behind its letters: --release releases it with them. So are
 names that were changed since the last day was filed or released.
@@ -24,6 +24,7 @@ from registry_tools.errors import WordsFault
 from registry_tools.notes import LOOK
 from registry_tools.office import folder, index, labels, past, release, words
 from registry_tools.office.excerpts import excerpts
+from registry_tools.office.files import sum_of
 from registry_tools.office.folder import Office
 from registry_tools.office.journal import Event
 from registry_tools.office.labels import Labels
@@ -202,9 +203,12 @@ def run(said: argparse.Namespace) -> int:
             for holder, numbers in progress.over(holders.items(), "writing the packages", len(holders), step=1):
                 days = [*source.earlier(numbers), last]
                 places = places_by_number(days, numbers)
-                made.write(f"{holder}.html", letter(settled, [day.told for day in days], holder, places, source.head))
-                for number, place in places.items():
-                    made.write(f"{holder}-{number}.csv", statement_from(days[place:], number))
+                texts = {number: statement_from(days[place:], number) for number, place in places.items()}
+                tables = {number: (f"{holder}-{number}.csv", sum_of(text.encode())) for number, text in texts.items()}
+                told = [day.told for day in days]
+                made.write(f"{holder}.html", letter(settled, told, holder, places, source.head, tables))
+                for number, text in texts.items():
+                    made.write(tables[number][0], text)
             if released:
                 # (all letters are there, and get their names behind it: no day is taken back behind its letters)
                 release.release(said, released, f"letters in {said.folder}")

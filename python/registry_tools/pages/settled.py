@@ -22,7 +22,7 @@ from registry_tools.texts.report import LogRow, Report
 Row = TypeVar("Row")
 # What becomes of an instruction.
 OUTCOMES = ("done", "refused", "waiting")
-WAITS = "waits for its due day"
+WAITS, REFUSED = "waits for its due day", "refused: "
 # In how many rows a table is cut into pages.
 ROWS_OF_PAGE = 1_000
 NO_DUE_DAY = "none in the calendar"
@@ -43,7 +43,7 @@ def record_in_words(logged: LogRow) -> str:
 def outcome_in_words(logged: LogRow) -> str:
     """What came of an instruction."""
     if not logged.is_done:
-        return WAITS if logged.name == NOT_DUE else f"refused: {logged.name}"
+        return WAITS if logged.name == NOT_DUE else f"{REFUSED}{logged.name}"
     return "done" if logged.figure is None else f"done, figure {grouped(logged.figure)}"
 
 

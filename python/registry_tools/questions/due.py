@@ -12,6 +12,7 @@ Deadlines are those of office.ini; no rule of a day text tells one. Without --un
 office.ini says under [due] lead; without that, 30. An operator whose surrendered allowances suffice is not shown; one
 whose emissions lack behind their deadline is shown with that for surrenders.
 
+People are shown the first working days that are over, and how many more; programs all of them.
 --ics writes the same as a calendar (iCalendar), which other programs take in.
 """
 import argparse
@@ -25,7 +26,7 @@ from registry_tools.calendars.deadlines import DueDates
 from registry_tools.calendars.due_days import head_after
 from registry_tools.calendars.ics import calendar_of
 from registry_tools.errors import FileFault
-from registry_tools.notes import counted
+from registry_tools.notes import MOST_TOLD, counted
 from registry_tools.office import composing, folder, labels, naming, past, words
 from registry_tools.office.folder import Office
 from registry_tools.office.labels import Labels
@@ -81,9 +82,18 @@ def run(said: argparse.Namespace) -> int:
         NewFile(said.ics, calendar_of(title, [(own.date, f"{own.what}: {own.text}") for own in found])).keep()
         print(f"{said.ics}: entries {len(found)}")
         return 0
-    rows = [own.cells() for own in found]
+    rows = [own.cells() for own in (found if showing.is_for_programs(said) else folded(found))]
     showing.show(said, COLUMNS, naming.rows_shown(said, COLUMNS, rows, labels.of_folder(office.path)))
     return 0
+
+
+def folded(found: list[Due]) -> list[Due]:
+    """What people are shown: of many working days that are over the first ones, and how many there are behind them."""
+    more = [own for own in found if own.what == MISSED][MOST_TOLD:]
+    if len(more) < 2:
+        return found
+    last = Due(more[0].date, MISSED, None, None, f"{len(more)} from here to {more[-1].date} are over, and not settled")
+    return [last if own is more[0] else own for own in found if own not in more[1:]]
 
 
 def due_until(office: Office, until: datetime.date) -> list[Due]:

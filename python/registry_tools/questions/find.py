@@ -1,22 +1,24 @@
 """Finds log rows over all days of a folder: of an account, of a user, of an act, what was refused, between two days.
 
 A distribution has a row for each account that receives; with --account of an account that does, only its own. The
-amount of an entry of emissions are its tonnes. Names stand beside the numbers (./day label gives them); JSON and csv
-have the columns of the table, and numbers alone.
+amount of an entry of emissions are its tonnes. Names stand beside the numbers (./day label gives them). With --refused
+it tells below the table why, and what to do. JSON and csv have the columns of the table, and numbers alone.
 
 exit status: 0 if something was found, 1 if nothing was.
 """
 import argparse
 import datetime
-from typing import Iterator
+from typing import Iterator, Sequence
 
 from registry_tools import showing, tables
+from registry_tools.calendars.due_days import NOT_DUE
 from registry_tools.errors import FOUND, WordsFault
 from registry_tools.office import index, naming, past
 from registry_tools.office.asking import HOLDER_HAS, NAMING, logged
 from registry_tools.office.labels import USER, Label, Labels
 from registry_tools.second import faults
 from registry_tools.showing import Cell
+from registry_tools.texts.checks import meanings
 from registry_tools.texts.in_words import act_columns
 from registry_tools.texts.report import LogRow
 
@@ -32,6 +34,7 @@ def add_words(parser: argparse.ArgumentParser) -> None:
     parser.add_argument("--name", metavar="NAME", help=named)
     parser.add_argument("--act", choices=faults.ACT_WORDS, help="rows of this act")
     parser.add_argument("--refused", action="store_true", help="only what was refused")
+    parser.add_argument("--no-waiting", action="store_true", help="leave out what only waited for its due day")
     parser.add_argument("--from", dest="begin", metavar="DATE", help="from this day on")
     parser.add_argument("--to", dest="end", metavar="DATE", help="up to this day")
     # (--to is a day here)
@@ -47,9 +50,18 @@ def run(said: argparse.Namespace) -> int:
     take_names(said, names)
     found = in_pairs(said, begin, end) if said.pairs else in_folder(said, begin, end)
     own = accounts_meant(said)
-    rows = [cells for logged in found for cells in cells_of(logged, own)]
-    showing.show(said, COLUMNS, naming.rows_shown(said, COLUMNS, rows, names))
+    wanted = (logged for logged in found if logged.name != NOT_DUE or not said.no_waiting)
+    rows = [cells for logged in wanted for cells in cells_of(logged, own)]
+    shown = naming.rows_shown(said, COLUMNS, rows, names)
+    showing.show_or_tell(said, COLUMNS, shown, lambda: told_of(shown, said.refused))
     return 0 if rows else FOUND
+
+
+def told_of(rows: Sequence[Sequence[Cell]], has_whys: bool) -> str:
+    """What people are told of these rows; of each check that refused one, also what it means and what to do."""
+    outcomes = [str(row[COLUMNS.names.index("outcome")]) for row in rows]
+    why = [f"{name}: {said}\n" for name, said in meanings(outcomes).items()] if has_whys else []
+    return "".join([showing.as_table(COLUMNS.names, rows, COLUMNS.numbers), *why])
 
 
 def take_names(said: argparse.Namespace, names: Labels) -> None:

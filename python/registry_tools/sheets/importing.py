@@ -9,8 +9,9 @@ day a time belongs to. ./day hand-in takes such tables too, and keeps them.
 
 The file of --mapping tells how others write it, a line each:
 
-  [columns]           headings, and the columns that they are; behind = nothing: passed over
+  [columns]           headings, and the columns that they are; one with nothing behind = is passed over
   Betrag = amount
+  Bemerkung =
   [act]               of a column, words and what they are
   Ausbuchung = surrender
   [always]            what all rows have in a column that is not there
@@ -43,7 +44,9 @@ EXAMPLE = (
     "  ./day import out/new.xlsx > out/new.csv"
 )
 MOST_SHOWN, MOST_TOLD = 5, 100
-OTHER_FORM = "--dates tells another form"
+OTHER_FORM, OTHER_AMOUNTS = "--dates tells another form", "amounts of --mapping tells the separators"
+# How somebody writes a number with separators.
+PARTED = re.compile(rf"-?[0-9]{{1,3}}(?:[.,'{mappings.BLANKS}][0-9]{{3}})+(?:[.,][0-9]+)?", re.ASCII)
 
 
 @dataclass(frozen=True)
@@ -124,7 +127,9 @@ def unused(table: Table, number: int, said: dict[str, str], act: str, used: set[
 
 
 def expected_of(table: Table, expected: str, word: str) -> str:
-    """What is expected: of a date in the form that was told, and else how another form is told."""
+    """What is expected: of a date in the form that was told, and else how another form is told, also of an amount."""
+    if "in plain digits" in expected and table.mapping.amounts is None and PARTED.fullmatch(word):
+        return f"{expected}; {OTHER_AMOUNTS}"
     if table.dates is not None:
         return expected.replace("YYYY-MM-DD", f"as {table.dates}")
     if "date" in expected and re.fullmatch(r"[0-9]{1,4}[./-][0-9]{1,2}[./-][0-9]{1,4}", word):

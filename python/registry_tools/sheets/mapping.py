@@ -1,6 +1,6 @@
 """What somebody else's table says by other headings and words: a mapping file, as settings are written.
 
-  [columns]         a heading of the table, and the column that it is; behind = nothing: it is passed over
+  [columns]         a heading of the table, and the column that it is; one with nothing behind = is passed over
   Betrag = amount
   Bemerkung =
   [act]             of a column, a word of the table, and the word that it is
@@ -86,7 +86,8 @@ def look_at(path: str, name: str, own: dict[str, str], known: list[str]) -> None
         raise FileFault(path, 0, "section", shown(name), expected)
     named = [*own.values()] if name == COLUMNS else own if name == ALWAYS else ()
     allowed = [*known, *([""] if name == COLUMNS else [])]
-    must_be_known(path, f"[{name}]", named, allowed, f"one of {', '.join(known)}")
+    passed = ", or nothing behind =, which passes the column over" if name == COLUMNS else ""
+    must_be_known(path, f"[{name}]", named, allowed, f"one of {', '.join(known)}{passed}")
 
 
 def amount_reader(example: str | None, path: str) -> Callable[[str], str]:

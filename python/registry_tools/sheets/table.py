@@ -13,7 +13,7 @@ DATE_COLUMNS = {"proposed"}
 AMOUNTS = re.compile("amount[2-8]?|tonnes|correction|general|aviation", re.ASCII)
 SHOWN_DAY = ("31", "12", "2026")
 # How somebody tells what his headings mean.
-OTHER_HEADINGS = "--mapping names other headings"
+OTHER_HEADINGS = "--mapping names other headings, as ./day import --help shows"
 # A column that a mapping passes over.
 PASSED_OVER = ""
 
@@ -62,17 +62,18 @@ class Table:
         """What is wrong with the names of the columns, and with cells that stand under none."""
         if not self.columns:
             yield self.sheet.fault(0, 0, "heading", "nothing", f"the names of columns: {', '.join(self.known)}")
+        expected = f"one of {', '.join(self.known)}; {OTHER_HEADINGS}"
         for place, name in enumerate(self.columns):
             if self.mapping.column(self.headings[place]) == PASSED_OVER:
                 continue
             if name not in self.known:
-                found, expected = shown(self.headings[place]), f"one of {', '.join(self.known)}"
-                yield self.sheet.fault(0, place, "heading", found, f"{expected}; {OTHER_HEADINGS}")
+                yield self.sheet.fault(0, place, "heading", shown(self.headings[place]), expected)
+                expected = "one of the same names"
             elif name in self.columns[:place]:
                 yield self.sheet.fault(0, place, "heading", f"a second column {name}", "each column once")
             elif name in self.mapping.always:
-                expected = f"no such column, or none under [{mappings.ALWAYS}] of {self.mapping.path}"
-                yield self.sheet.fault(0, place, "heading", f"a column {name}", expected)
+                none = f"no such column, or none under [{mappings.ALWAYS}] of {self.mapping.path}"
+                yield self.sheet.fault(0, place, "heading", f"a column {name}", none)
         for number, cells in enumerate(self.sheet.rows[1:], 1):
             for place, cell in enumerate(cells[len(self.columns) :], len(self.columns)):
                 if cell and self.columns:

@@ -1,6 +1,7 @@
 """What each check means and what to do about it, in plain words, of the table of checks."""
 import functools
 import re
+from collections.abc import Iterable
 from dataclasses import dataclass
 
 from registry_tools import streams, tables
@@ -36,3 +37,8 @@ def checks() -> dict[str, Check]:
 def advice_for(name: str) -> str:
     """What to do after a refusal by the check of this name."""
     return checks()[name].advice
+
+
+def meanings(names: Iterable[str]) -> dict[str, str]:
+    """Of each of these checks, what it means and what to do, each once."""
+    return {name: f"{checks()[name].meaning} {advice_for(name)}" for name in dict.fromkeys(names)}
