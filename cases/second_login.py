@@ -300,6 +300,9 @@ def other_commands_trials(work: Path) -> Iterator[Told]:
         copy = shutil.copytree(office, work / "copy")
         other = [*words, "--why", "another reason", *of("anna"), "--office", str(copy)]
         yield f"{command}: for another reason", told(1, waits, *other)
+        by_program = [word for word in words if word != "--second"]
+        if by_program != words:
+            yield f"{command}: by the program", told(1, waits, *by_program, *WHY, *of("anna"), "--office", str(copy))
         shutil.rmtree(copy)
         yield f"{command}: as it was asked for", told(0, [f"{MONDAY} is "], *words, *WHY, *of("anna"), *own)
         approved = {event.approved for event in journal.read(office / "journal.csv").events[1:]}
@@ -310,6 +313,26 @@ def other_commands_trials(work: Path) -> Iterator[Told]:
         correct = ["correct", MONDAY, "--without", "61007", "--second", "--yes", *WHY, *of("anna"), *own]
         yield f"correct waits as {like} does", told(1, ["is asked for"], *correct)
     yield from by_itself_trials(work)
+    yield from beside_trials(work)
+
+
+def beside_trials(work: Path) -> Iterator[Told]:
+    """A close is approved as it stands, without a change that waits itself; its line has all who approved it, and a
+    later one says that other commands wait now."""
+    office, own = settled(work, "beside", "change, close")
+    must_do([*CHANGE, *of("anna"), *own])
+    close = ["close", "--date", TUESDAY, "--yes", *of("anna"), *own]
+    yield "asked for beside a change", told(1, ["is asked for, and waits for"], *close)
+    for login in ("bert", "eva"):
+        yield f"approved by {login}", told(0, ["approved: close"], "approve", *close[:3], *of(login), *own)
+    yield "closed", told(0, [f"{TUESDAY} is settled"], *close)
+    login, event = people.system_login(), journal.read(office / "journal.csv").events[-1]
+    yield "all who approved it", differs({*event.approved.split(", ")}, {f"{login}:bert", f"{login}:eva"})
+    settings = office / "office.ini"
+    settings.write_text(settings.read_text().replace("change, close", "change"))
+    must_do(["close", "--date", WEDNESDAY, "--yes", *of("anna"), *own])
+    has = [f"from here on office.ini names other people or commands of four eyes: {WEDNESDAY}, filed by"]
+    yield "other commands wait now", told(0, has, "audit", *own)
 
 
 def by_itself_trials(work: Path) -> Iterator[Told]:
