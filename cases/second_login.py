@@ -320,12 +320,15 @@ def beside_trials(work: Path) -> Iterator[Told]:
     """A close is approved as it stands, without a change that waits itself; its line has all who approved it, and a
     later one says that other commands wait now."""
     office, own = settled(work, "beside", "change, close")
-    must_do([*CHANGE, *of("anna"), *own])
+    must_do(["hand-in", str(file_of(work, "acts.csv", ACT)), *of("anna"), *own])
+    must_do([*CHANGE, "--user", "+5204:approve", *of("anna"), *own], ["take-back", "2", *WHY, *of("anna"), *own])
     close = ["close", "--date", TUESDAY, "--yes", *of("anna"), *own]
     yield "asked for beside a change", told(1, ["is asked for, and waits for"], *close)
     for login in ("bert", "eva"):
         yield f"approved by {login}", told(0, ["approved: close"], "approve", *close[:3], *of(login), *own)
     yield "closed", told(0, [f"{TUESDAY} is settled"], *close)
+    filed = handed_journal.read_journal(office / "days" / TUESDAY / "handed-in.csv")
+    yield "what waits is not filed", differs(([part.name for part in filed.parts], filed.taken), (["acts.csv"], []))
     login, event = people.system_login(), journal.read(office / "journal.csv").events[-1]
     yield "all who approved it", differs({*event.approved.split(", ")}, {f"{login}:bert", f"{login}:eva"})
     settings = office / "office.ini"
