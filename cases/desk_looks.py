@@ -123,7 +123,8 @@ def period_trials(work: Path) -> Iterator[Told]:
     first.write_text(MONDAY_OF_TWO_PERIODS)
     desk, _ = desk_of(work, first, "2025-05-12")
     form = desk.person().get("/change?account=2").page.form("/change/look")
-    yield "corrections", differs([own for own in form.fields if own[:11] == "correction-"], ["correction-1", "correction-2"])
+    found = [own for own in form.fields if own.startswith("correction-")]
+    yield "corrections", differs(found, ["correction-1", "correction-2"])
 
 
 def undo_trials(work: Path) -> Iterator[Told]:
