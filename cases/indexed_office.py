@@ -19,8 +19,9 @@ from registry_tools.office.close import inside
 WEEK = TOP / "examples" / "week"
 # A transfer of more than a column can hold, which is refused.
 LARGE = "do,2025-09-23,4201,4202,transfer,300118,300126,general,18446744073709551615\n"
-# What a user proposes on the day before which a hand named it.
-OF_NEW = "do,2025-09-25,5299,5102,surrender,100210,general,1\n"
+# A user whom a hand names before each of these days, and what he proposes on it.
+NEW_USERS = {"2025-09-24": 5299, "2025-09-25": 5298}
+OF_NEW = "do,{date},{user},5102,surrender,100210,general,1\n"
 # What is handed in for each day behind the first one.
 DAYS: dict[str, list[str]] = {
     "2025-09-23": ["tuesday-do.csv", "tuesday-work.csv"], "2025-09-24": ["wednesday-do.csv", "wednesday-changes.csv"],
@@ -54,17 +55,20 @@ def indexed_trials(work: Path) -> Iterator[Trial]:
 
 
 def week(work: Path) -> Path:
-    """The folder of the example, an instruction whose amount has 64 bits, and one of a new user."""
-    office, large = work / "week", work / "large.csv"
-    large.write_text(LARGE + OF_NEW)
+    """The folder of the example, an instruction whose amount has 64 bits, and some of new users."""
+    office, large, new = work / "week", work / "large.csv", work / "new.csv"
+    large.write_text(LARGE)
     must_do(["init", str(office), str(WEEK / "monday.csv")])
     close(office, "2025-09-22")
     for date, names in DAYS.items():
         files = [*(WEEK / name for name in names), *([large] if date == "2025-09-25" else [])]
         said = Said("hand-in", *files, "--office", office)
         assert said.status in (0, 1), said
-        if date == "2025-09-25":
-            must_do(["change", "100210", "--user", "+5299:both", "--why", "a letter", "--yes", "--office", str(office)])
+        if date in NEW_USERS:
+            new.write_text(OF_NEW.format(date=date, user=NEW_USERS[date]))
+            own = ["--office", str(office)]
+            must_do(["change", "100210", f"--user=+{NEW_USERS[date]}:both", "--why", "a letter", "--yes", *own])
+            must_do(["hand-in", str(new), *own])
         close(office, date)
     return office
 
