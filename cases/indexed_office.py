@@ -29,7 +29,8 @@ DAYS: dict[str, list[str]] = {
 }  # fmt: skip
 QUESTIONS: list[Words] = [
     ["find"], ["find", "--account", 300118, "--json"], ["find", "--account", 100377, "--refused"],
-    ["find", "--user", 4201, "--csv"], ["find", "--act", "surrender", "--from", "2025-09-23", "--to", "2025-09-24"],
+    ["find", "--user", 4201, "--csv"], ["find", "--user", 902],
+    ["find", "--act", "surrender", "--from", "2025-09-23", "--to", "2025-09-24"],
     *(["history", account] for account in (100210, 100377, 200045, 300118, 300126, 900001)),
     *(["balance", account, "--on", date] for account in (100210, 200045, 300118) for date in DAYS),
     ["balance", 7], ["history", 7],
