@@ -1,15 +1,17 @@
 """Settled days that are corrected: each is what the same days become that are taken back and closed once more by other
 commands; what could not be is refused, and changes nothing."""
+import errno
 import re
 import shutil
 from pathlib import Path
 from typing import Iterator
+from unittest import mock
 
 from damaged_office import unchanged
 from harness import TOP, Said, differs
 from offices import must_do, told
 
-from registry_tools.office import correct, handed_journal, journal, people
+from registry_tools.office import correct, handed_journal, journal, people, prepared
 
 WEEK, RULES = TOP / "examples" / "week", TOP / "tools" / "rules.py"
 MONDAY, TUESDAY, WEDNESDAY, THURSDAY = (f"2025-09-{day}" for day in (22, 23, 24, 25))
@@ -28,7 +30,9 @@ def corrected_trials(work: Path) -> Iterator[Told]:
     work.mkdir()
     base = work / "base"
     made(base)
-    for trials in (same_trials, shown_trials, refused_trials, law_trials, later_trials, index_trials):
+    for trials in (
+        same_trials, shown_trials, refused_trials, law_trials, later_trials, index_trials, interrupted_trials,
+    ):  # fmt: skip
         yield from trials(work, base)
     yield from first_trials(work)
 
@@ -170,6 +174,18 @@ def first_trials(work: Path) -> Iterator[Told]:
     yield "who approved it", differs([(each.place, each.login) for each in filed.approved], [(7, f"{login}:eva")])
     yield "its file", differs((office / "days" / MONDAY / "do.csv").read_text(), f"{row}11\n")
     yield "the first day: audit", told(0, ["0 differences"], "audit", "--second", *own)
+
+
+def interrupted_trials(_work: Path, base: Path) -> Iterator[Told]:
+    """What can't be moved into its place behind the one step, the next command moves; both name the first day."""
+    office, own = copy_of(base, "office")
+    words = ["correct", TUESDAY, "--without", "61010", *WHY, "--yes", *own]
+    has = [f"{TUESDAY} is corrected; the next command puts the rest in place"]
+    with mock.patch.object(prepared, "put_in_place", side_effect=OSError(errno.EIO, "a broken disk")):
+        yield "interrupted behind its step", told(0, has, *words)
+    has = [f"when its work was done: {TUESDAY} is corrected, and all is in its place now"]
+    yield "put in place", told(0, has, "status", *own)
+    yield "and all is there", told(0, ["days 3", "0 differences"], "audit", *own)
 
 
 def index_trials(_work: Path, base: Path) -> Iterator[Told]:

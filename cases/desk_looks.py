@@ -177,6 +177,9 @@ def upload_trials(work: Path) -> Iterator[Told]:
     yield "two files of one name", has(told, "handed in: rows.csv", "handed in: 1 rows.csv")
     status = Said("status", *own).output
     yield "both are there", None if f"{ROW}1 (rows.csv" in status and f"{ROW}2 (1 rows.csv" in status else status
+    must_do(["take-back", "2", *WHY, *own])
+    gone = "Place 2, transfer of 2 general, 100210 to 300118, was taken back by"
+    yield from ((f"the first of a file was taken back, {path}", has(ana.get(path), gone)) for path in ("/", "/next"))
 
 
 def at_once_trials(work: Path) -> Iterator[Told]:
