@@ -184,7 +184,7 @@ def upload_trials(work: Path) -> Iterator[Told]:
 
 def at_once_trials(work: Path) -> Iterator[Told]:
     """A form that is sent twice at once begins one command."""
-    begun, both = [], threading.Barrier(2)
+    begun, both = list[list[str]](), threading.Barrier(2)
 
     def begin(line: list[str], _folder: Path, _out: Path) -> Started:
         begun.append(line)

@@ -417,7 +417,7 @@ def forged_trials(work: Path) -> Iterator[Told]:
 
 def not_any_more_trials(base: Path, office: Path) -> Iterator[Told]:
     """An approval counts as long as those who gave it may, and what it is of is said to be of the same login."""
-    login, journal_of_next = people.system_login(), Path("next") / "journal.csv"
+    login, journal_of_next = people.system_login(), "next/journal.csv"
     for name, file, was, becomes in (
         ("the desk may not speak for others any more", "office.ini", "The desk: proxy", "The desk: all"),
         ("who may not any more", "office.ini", "Bert Kohl: all", "Bert Kohl: look"),
