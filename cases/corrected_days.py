@@ -1,19 +1,23 @@
 """Settled days that are corrected: each is what the same days become that are taken back and closed once more by other
 commands; what could not be is refused, and changes nothing."""
+import errno
 import re
 import shutil
 from pathlib import Path
 from typing import Iterator
+from unittest import mock
 
 from damaged_office import unchanged
 from harness import TOP, Said, differs
 from offices import must_do, told
 
-from registry_tools.office import correct, journal
+from registry_tools.office import correct, handed_journal, journal, people, prepared
 
 WEEK, RULES = TOP / "examples" / "week", TOP / "tools" / "rules.py"
 MONDAY, TUESDAY, WEDNESDAY, THURSDAY = (f"2025-09-{day}" for day in (22, 23, 24, 25))
 WHY = ["--why", "a slip"]
+# Who may do what with account 100377 from Wednesday on.
+USERS = ["user,5203,propose", "user,5204,approve"]
 HANDED: dict[str, list[str]] = {
     MONDAY: [], TUESDAY: ["tuesday-do.csv", "tuesday-work.csv"],
     WEDNESDAY: ["wednesday-do.csv", "wednesday-changes.csv"],
@@ -26,8 +30,11 @@ def corrected_trials(work: Path) -> Iterator[Told]:
     work.mkdir()
     base = work / "base"
     made(base)
-    for trials in (same_trials, shown_trials, refused_trials, law_trials, later_trials, index_trials):
+    for trials in (
+        same_trials, shown_trials, refused_trials, law_trials, later_trials, index_trials, interrupted_trials,
+    ):  # fmt: skip
         yield from trials(work, base)
+    yield from first_trials(work)
 
 
 def made(office: Path) -> None:
@@ -124,8 +131,8 @@ def shown_trials(_work: Path, base: Path) -> Iterator[Told]:
     yield "records of a later day", unchanged(office, 1, has, "correct", TUESDAY, *later, *WHY, *own)
 
 
-def later_trials(_work: Path, base: Path) -> Iterator[Told]:
-    """The first day, an account that was handed in as a whole, and two records at once."""
+def later_trials(work: Path, base: Path) -> Iterator[Told]:
+    """The first day, an account that was handed in as a whole, also for an earlier day, and two records at once."""
     office, own = copy_of(base, "office")
     words = ["correct", MONDAY, "--without", "61007", "--without", "61013", *WHY, "--yes", *own]
     yield "the first text", told(0, [f"closed once more: {MONDAY}, {TUESDAY}, {WEDNESDAY}"], *words)
@@ -135,6 +142,50 @@ def later_trials(_work: Path, base: Path) -> Iterator[Told]:
     block = (office / "days" / WEDNESDAY / "changes.csv").read_text().splitlines()
     yield "the account has its own numbers", None if any(row.startswith("retired,61010,") for row in block) else block
     yield "who changed it", told(0, ["wednesday-changes.csv"], "changes", *own)
+    office, own = copy_of(base, "office")
+    account = (WEEK / "monday-report.csv").read_text().partition("account,100377,")[2].partition("account,")[0]
+    path = file_of(work, "block.csv", *f"account,100377,{account}".splitlines())
+    text = path.read_text().replace("user,5201,approve\n", "").replace("trusted,", "user,5204,approve\ntrusted,")
+    path.write_text(text)
+    words = ["correct", TUESDAY, "--with", str(path), *WHY, "--yes", *own]
+    yield "what a later day changes too", told(0, [f"{WEDNESDAY}: account 100377 was", "is corrected"], *words)
+    block = (office / "days" / WEDNESDAY / "changes.csv").read_text().splitlines()
+    yield "it is there once", differs(sorted(row for row in block if row.startswith("user,52")), USERS)
+
+
+def first_trials(work: Path) -> Iterator[Told]:
+    """What was handed in for the first day, behind the instructions of its text: what is left out is taken back at its
+    own place, and who approved what stays is told at the place that it gets."""
+    office = work / "first"
+    own, login = ["--office", str(office)], people.system_login()
+    speaks = f"[people]\n{login} = The desk: all, proxy\nbert = Bert: all\neva = Eva: all\n"
+    must_do(["init", str(office), str(WEEK / "monday.csv"), "--program", str(RULES)])
+    settings = office / "office.ini"
+    settings.write_text(settings.read_text() + speaks + "[four eyes]\ncommands = hand-in\n")
+    row = f"do,{MONDAY},5101,5102,transfer,100210,300118,general,"
+    for place, by in zip(range(8, 12), ("bert", "", "bert", "eva")):
+        must_do(["hand-in", str(file_of(work, f"{place}.csv", f"{row}{place}")), *own])
+        must_do(["approve", str(place), "--for", by, *own] if by else ["take-back", str(place), *WHY, *own])
+    must_do(["close", "--date", MONDAY, *own])
+    without = ["--without", "61009", "--without", "61008", "--without", "61003"]
+    yield "the first day", told(0, ["is corrected"], "correct", MONDAY, *without, *WHY, "--yes", *own)
+    filed = handed_journal.read_journal(office / "days" / MONDAY / "handed-in.csv")
+    yield "what stays", differs([(part.start, part.name) for part in filed.parts], [(1, "monday.csv"), (7, "11.csv")])
+    yield "who approved it", differs([(each.place, each.login) for each in filed.approved], [(7, f"{login}:eva")])
+    yield "its file", differs((office / "days" / MONDAY / "do.csv").read_text(), f"{row}11\n")
+    yield "the first day: audit", told(0, ["0 differences"], "audit", "--second", *own)
+
+
+def interrupted_trials(_work: Path, base: Path) -> Iterator[Told]:
+    """What can't be moved into its place behind the one step, the next command moves; both name the first day."""
+    office, own = copy_of(base, "office")
+    words = ["correct", TUESDAY, "--without", "61010", *WHY, "--yes", *own]
+    has = [f"{TUESDAY} is corrected; the next command puts the rest in place"]
+    with mock.patch.object(prepared, "put_in_place", side_effect=OSError(errno.EIO, "a broken disk")):
+        yield "interrupted behind its step", told(0, has, *words)
+    has = [f"when its work was done: {TUESDAY} is corrected, and all is in its place now"]
+    yield "put in place", told(0, has, "status", *own)
+    yield "and all is there", told(0, ["days 3", "0 differences"], "audit", *own)
 
 
 def index_trials(_work: Path, base: Path) -> Iterator[Told]:
@@ -200,7 +251,7 @@ def law_trials(_work: Path, base: Path) -> Iterator[Told]:
     must_do(["release", TUESDAY, "--yes", *WHY, *own])
     released = f"{TUESDAY} was released, and is not corrected: others know of it. By the rules, "
     for record, has in (
-        ("61010", "record 61010, surrender, is corrected by a reversal, as long as its window is not over, "),
+        ("61010", "61010, surrender, is corrected by a reversal, as long as its window is not over, until 2025-09-25"),
         ("61009", "record 61009, emissions, is corrected by another entry for the same year, and then"),
         ("61013", "record 61013 needs none: it was refused"),
         ("61008", "is corrected by a transfer back, from the account"),

@@ -1,5 +1,6 @@
 """Trials of folders whose files somebody has changed, moved or put there by hand: each command that would build on such
 a file, or take it away, says which it is, and leaves all as it was."""
+import errno
 import fcntl
 import gzip
 import os
@@ -13,7 +14,7 @@ from harness import Said
 from offices import FIRST, must_do, new_office, told
 
 from registry_tools import main
-from registry_tools.office import audit, audited, prepared
+from registry_tools.office import audit, audited, files, prepared
 from registry_tools.office.close import inside
 
 ROW = "do,2025-04-01,101,102,transfer,1,2,general,{}\n"
@@ -320,6 +321,18 @@ def interrupted_trials(work: Path) -> Iterator[Trial]:
     with mock.patch.object(audit, "look_at_filed_files", meanwhile):
         yield "audit while a day is closed", told(1, has, "audit", *own)
     yield "audit again", told(0, [": 0 differences"], "audit", *own)
+    third = [*CLOSE, "2025-04-03", *own]
+    with mock.patch.object(files, "remove_tree", half_removed):
+        yield "close that is ended while it tidies up", told(0, ["the next command puts the rest in place"], *third)
+    yield "the next one", told(0, ["2025-04-04 is settled"], *CLOSE, "2025-04-04", *own)
+
+
+def half_removed(path: Path) -> None:
+    """Removes a folder; of one that is prepared only a part, as a command does that is ended there."""
+    if (path / prepared.VALID).exists():
+        (path / prepared.VALID).unlink()
+        raise OSError(errno.EIO, "a broken disk")
+    shutil.rmtree(path, ignore_errors=True)
 
 
 def name_trials(work: Path) -> Iterator[Trial]:

@@ -62,6 +62,9 @@ def named_day_trials(work: Path) -> Iterator[Trial]:
     yield "release of a day behind which one stands", told(0, [f"{third} is released"], "release", third, "--yes", *why)
     yield "undo of what stands behind it", told(0, ["2025-04-03 is undone"], "undo", "2025-04-03", *why)
     yield "undo of it", unchanged(office, 2, [f"{third} was released"], "undo", third, *why)
+    must_do([*CLOSE, "2025-04-03", *own], ["undo", "2025-04-03", "--who", "Ben", *why])
+    has = ["2025-04-03 is undone: Ben took it back at"]
+    yield "undo once more behind a second one", unchanged(office, 2, has, "undo", "2025-04-03", *why)
     yield "audit of all this", told(0, [": 0 differences"], "audit", *own)
 
 
@@ -404,7 +407,8 @@ def figure_trials(work: Path) -> Iterator[Trial]:
     first.write_text(text.replace("account,2,", f"{rows}account,2,"))
     must_do(["init", own[1], str(first)], [*CLOSE, FIRST_DAY, *own], ["month", str(work / "month.html"), *own])
     page = (work / "month.html").read_text()
-    yield "figures of an excluded account", None if "551" not in page and "557" not in page else "they are added"
+    # (the head that stands on the page may have these digits too, among others)
+    yield "figures of an excluded account", re.findall(r"\b55[17]\b", page)
 
 
 def due_trials(work: Path) -> Iterator[Trial]:

@@ -19,6 +19,9 @@ from registry_tools.office.close import inside
 WEEK = TOP / "examples" / "week"
 # A transfer of more than a column can hold, which is refused.
 LARGE = "do,2025-09-23,4201,4202,transfer,300118,300126,general,18446744073709551615\n"
+# A user whom a hand names before each of these days, and what he proposes on it.
+NEW_USERS = {"2025-09-24": 5299, "2025-09-25": 5298}
+OF_NEW = "do,{date},{user},5102,surrender,100210,general,1\n"
 # What is handed in for each day behind the first one.
 DAYS: dict[str, list[str]] = {
     "2025-09-23": ["tuesday-do.csv", "tuesday-work.csv"], "2025-09-24": ["wednesday-do.csv", "wednesday-changes.csv"],
@@ -26,7 +29,8 @@ DAYS: dict[str, list[str]] = {
 }  # fmt: skip
 QUESTIONS: list[Words] = [
     ["find"], ["find", "--account", 300118, "--json"], ["find", "--account", 100377, "--refused"],
-    ["find", "--user", 4201, "--csv"], ["find", "--act", "surrender", "--from", "2025-09-23", "--to", "2025-09-24"],
+    ["find", "--user", 4201, "--csv"], ["find", "--user", 902],
+    ["find", "--act", "surrender", "--from", "2025-09-23", "--to", "2025-09-24"],
     *(["history", account] for account in (100210, 100377, 200045, 300118, 300126, 900001)),
     *(["balance", account, "--on", date] for account in (100210, 200045, 300118) for date in DAYS),
     ["balance", 7], ["history", 7],
@@ -52,8 +56,8 @@ def indexed_trials(work: Path) -> Iterator[Trial]:
 
 
 def week(work: Path) -> Path:
-    """The folder of the example, and an instruction whose amount has 64 bits."""
-    office, large = work / "week", work / "large.csv"
+    """The folder of the example, an instruction whose amount has 64 bits, and some of new users."""
+    office, large, new = work / "week", work / "large.csv", work / "new.csv"
     large.write_text(LARGE)
     must_do(["init", str(office), str(WEEK / "monday.csv")])
     close(office, "2025-09-22")
@@ -61,6 +65,11 @@ def week(work: Path) -> Path:
         files = [*(WEEK / name for name in names), *([large] if date == "2025-09-25" else [])]
         said = Said("hand-in", *files, "--office", office)
         assert said.status in (0, 1), said
+        if date in NEW_USERS:
+            new.write_text(OF_NEW.format(date=date, user=NEW_USERS[date]))
+            own = ["--office", str(office)]
+            must_do(["change", "100210", f"--user=+{NEW_USERS[date]}:both", "--why", "a letter", "--yes", *own])
+            must_do(["hand-in", str(new), *own])
         close(office, date)
     return office
 

@@ -1,6 +1,7 @@
 """Tables as spreadsheets write them, for trials: csv in several spellings, .xlsx and .ods."""
 import csv
 import io
+import itertools
 import re
 import tempfile
 import zipfile
@@ -60,7 +61,7 @@ def shown_mark(mark: str) -> str:
 
 def open_document(cells: Cells) -> bytes:
     """An OpenDocument workbook, with a note to a cell, and with the empty rows and cells with which a sheet ends."""
-    rows = "".join(f"<table:table-row>{''.join(map(cell_of, row))}{EMPTY_CELLS}</table:table-row>" for row in cells)
+    rows = "".join(rows_of(list(row), sum(1 for _ in equal)) for row, equal in itertools.groupby(cells))
     table = f'<table:table table:name="orders">{rows}{EMPTY_ROWS}</table:table>'
     second = '<table:table table:name="other"><table:table-row><table:table-cell/></table:table-row></table:table>'
     sheets = f"<office:body><office:spreadsheet>{table}{second}</office:spreadsheet></office:body>"
@@ -72,6 +73,17 @@ def open_document(cells: Cells) -> bytes:
     return content.getvalue()
 
 
+def rows_of(row: list[str], times: int) -> str:
+    """So many equal rows, whose equal cells stand there once."""
+    cells = "".join(cell_of(cell, sum(1 for _ in equal)) for cell, equal in itertools.groupby(row))
+    return f"<table:table-row{repeated('rows', times)}>{cells}{EMPTY_CELLS}</table:table-row>"
+
+
+def repeated(what: str, times: int) -> str:
+    """How often something stands there, as LibreOffice writes it."""
+    return f' table:number-{what}-repeated="{times}"' if times > 1 else ""
+
+
 EMPTY_CELLS = '<table:table-cell table:number-columns-repeated="16000"/>'
 EMPTY_ROWS = (
     '<table:table-row table:number-rows-repeated="1048000"><table:table-cell '
@@ -80,10 +92,10 @@ EMPTY_ROWS = (
 NOTE = "<office:annotation><text:p>a note</text:p></office:annotation>"
 
 
-def cell_of(cell: str) -> str:
-    """A cell as LibreOffice writes it."""
+def cell_of(cell: str, times: int) -> str:
+    """So many equal cells as LibreOffice writes them."""
     if cell == "":
-        return "<table:table-cell/>"
+        return f"<table:table-cell{repeated('columns', times)}/>"
     number = cell.replace(".", "", 1)
     if number.isascii() and number.isdigit() and not cell.startswith("0"):
         value = f'office:value-type="float" office:value="{float(cell):g}"' if "." in cell else (
@@ -93,7 +105,8 @@ def cell_of(cell: str) -> str:
         value = f'office:value-type="date" office:date-value="{cell}"'
     else:
         value = 'office:value-type="string"'
-    return f"<table:table-cell {value}>{NOTE}<text:p>{escape(cell)}</text:p></table:table-cell>"
+    start = f"<table:table-cell{repeated('columns', times)} {value}>"
+    return f"{start}{NOTE}<text:p>{escape(cell)}</text:p></table:table-cell>"
 
 
 def named_files(folder: Path) -> set[str]:

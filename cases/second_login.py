@@ -303,14 +303,53 @@ def other_commands_trials(work: Path) -> Iterator[Told]:
         copy = shutil.copytree(office, work / "copy")
         other = [*words, "--why", "another reason", *of("anna"), "--office", str(copy)]
         yield f"{command}: for another reason", told(1, waits, *other)
+        by_program = [word for word in words if word != "--second"]
+        if by_program != words:
+            yield f"{command}: by the program", told(1, waits, *by_program, *WHY, *of("anna"), "--office", str(copy))
         shutil.rmtree(copy)
         yield f"{command}: as it was asked for", told(0, [f"{MONDAY} is "], *words, *WHY, *of("anna"), *own)
         approved = {event.approved for event in journal.read(office / "journal.csv").events[1:]}
         yield f"{command}: its lines", differs(approved, {f"{people.system_login()}:bert"})
         yield f"{command}: audit", told(0, ["0 differences"], "audit", "--second", *own)
-    office, own = settled(work, "like-close", "close")
-    correct = ["correct", MONDAY, "--without", "61007", "--second", "--yes", *WHY, *of("anna"), *own]
-    yield "correct waits as close does", told(1, ["is asked for"], *correct)
+    for like in ("close", "undo"):
+        office, own = settled(work, f"like-{like}", like)
+        correct = ["correct", MONDAY, "--without", "61007", "--second", "--yes", *WHY, *of("anna"), *own]
+        yield f"correct waits as {like} does", told(1, ["is asked for"], *correct)
+    yield from by_itself_trials(work)
+    yield from beside_trials(work)
+
+
+def beside_trials(work: Path) -> Iterator[Told]:
+    """A close is approved as it stands, without a change that waits itself; its line has all who approved it, and a
+    later one says that other commands wait now."""
+    office, own = settled(work, "beside", "change, close")
+    must_do(["hand-in", str(file_of(work, "acts.csv", ACT)), *of("anna"), *own])
+    must_do([*CHANGE, "--user", "+5204:approve", *of("anna"), *own], ["take-back", "2", *WHY, *of("anna"), *own])
+    close = ["close", "--date", TUESDAY, "--yes", *of("anna"), *own]
+    yield "asked for beside a change", told(1, ["is asked for, and waits for"], *close)
+    for login in ("bert", "eva"):
+        yield f"approved by {login}", told(0, ["approved: close"], "approve", *close[:3], *of(login), *own)
+    yield "closed", told(0, [f"{TUESDAY} is settled"], *close)
+    filed = handed_journal.read_journal(office / "days" / TUESDAY / "handed-in.csv")
+    yield "what waits is not filed", differs(([part.name for part in filed.parts], filed.taken), (["acts.csv"], []))
+    login, event = people.system_login(), journal.read(office / "journal.csv").events[-1]
+    yield "all who approved it", differs({*event.approved.split(", ")}, {f"{login}:bert", f"{login}:eva"})
+    settings = office / "office.ini"
+    settings.write_text(settings.read_text().replace("change, close", "change"))
+    must_do(["close", "--date", WEDNESDAY, "--yes", *of("anna"), *own])
+    has = [f"from here on office.ini names other people or commands of four eyes: {WEDNESDAY}, filed by"]
+    yield "other commands wait now", told(0, has, "audit", *own)
+
+
+def by_itself_trials(work: Path) -> Iterator[Told]:
+    """A desk that may do all is one login, whether it speaks for itself or not."""
+    login = people.system_login()
+    _, own = settled(work, "itself", "close", {**PEOPLE, login: "The desk: all, proxy"})
+    close = ["close", "--date", TUESDAY, *own]
+    yield "asked for", told(1, ["is asked for, and waits for"], *close, *of("anna"))
+    must_do(["approve", "close", "--date", TUESDAY, *own])
+    yield "closed by who approved it, as itself", told(1, ["is asked for, and waits for"], *close, *of(login))
+    yield "closed by another one", told(0, [f"{TUESDAY} is settled"], *close, *of("anna"))
 
 
 def send_trials(work: Path) -> Iterator[Told]:
@@ -372,17 +411,26 @@ def forged_trials(work: Path) -> Iterator[Told]:
     yield "nothing", forged(lambda: there.write_text(""))
     yield "a folder", forged(lambda: made_a_folder(there))
     yield from owner_trials(forged, there)
-    shutil.rmtree(office)
-    shutil.copytree(base, office)
-    settings = office / "office.ini"
-    settings.write_text(settings.read_text().replace("The desk: proxy", "The desk: all"))
-    yield "the desk may not speak for others any more", told(0, ["place 1, change by"], "approve", *own)
-    settings.write_text(settings.read_text().replace("Bert Kohl: all", "Bert Kohl: look"))
-    yield "who may not any more", told(0, ["place 1, change by"], "approve", *own)
+    yield from not_any_more_trials(base, office)
     # (who writes what is asked for in the name of another one still needs a second login)
     asked = work / "forged" / "next" / f"asked-close-{TUESDAY}.csv"
     asked.write_text(f"asked,now,Eve,eve,close,{TUESDAY},,x,y\n")
     yield "something that nobody asked for", told(0, ["nothing waits"], "approve", "--office", base)
+
+
+def not_any_more_trials(base: Path, office: Path) -> Iterator[Told]:
+    """An approval counts as long as those who gave it may, and what it is of is said to be of the same login."""
+    login, journal_of_next = people.system_login(), "next/journal.csv"
+    for name, file, was, becomes in (
+        ("the desk may not speak for others any more", "office.ini", "The desk: proxy", "The desk: all"),
+        ("who may not any more", "office.ini", "Bert Kohl: all", "Bert Kohl: look"),
+        ("handed in by another one, as is said now", journal_of_next, f"{login}:anna", f"{login}:dan"),
+    ):  # fmt: skip
+        shutil.rmtree(office)
+        shutil.copytree(base, office)
+        path = office / file
+        path.write_text(path.read_text().replace(was, becomes))
+        yield name, told(0, ["place 1, change by"], "approve", "--office", office)
 
 
 def write_as(path: Path, row: str, old: str, new: str) -> None:

@@ -9,7 +9,7 @@ import zipfile
 from collections.abc import Iterator
 from pathlib import Path
 
-from harness import TOP, Said
+from harness import TOP, Said, differs
 
 from registry_tools.second import rules
 from registry_tools.sheets import columns as tables
@@ -17,6 +17,7 @@ from registry_tools.sheets.writing import Written, write_workbook
 from registry_tools.showing import as_csv
 
 from drawing import drawn_rows
+from opened import open_document
 
 DRAWN_DAYS = 12
 
@@ -110,6 +111,53 @@ def as_others_write_it(work: Path) -> Iterator[tuple[str, object]]:
     yield "a workbook with dates, shared texts and a formula", None if said.output == expected.splitlines()[
         1
     ] + "\n" else said
+
+    yield from kept_otherwise(path, expected.splitlines()[1])
+
+
+# A table whose cells and rows are equal to those beside them: a spreadsheet keeps each once, and how often.
+EQUAL = [
+    ["proposed", "proposer", "approver", "act", "from", "kind", "to", "amount", "to2", "amount2"],
+    *[["2025-09-23", "901", "901", "distribute", "900001", "general", "7", "7", "8", "8"]] * 3,
+]
+
+
+def kept_otherwise(path: Path, expected: str) -> Iterator[tuple[str, object]]:
+    """Dates of each format and of each first day, equal cells and rows, a sign, and half of a share."""
+    for number in (14, 15, 16, 17, 22):
+        write_kept(path)
+        replace_in(path, "xl/styles.xml", 'numFmtId="14"', f'numFmtId="{number}"')
+        yield f"a date of the format {number}", differs(Said("import", path).output, f"{expected}\n")
+    for word in ("1", "true"):
+        write_kept(path)
+        replace_in(path, "xl/workbook.xml", "<sheets>", f'<workbookPr date1904="{word}"/><sheets>')
+        later = expected.replace("2025-09-24", "2029-09-25")
+        yield f"days from 1904: {word}", differs(Said("import", path).output, f"{later}\n")
+    table = path.with_suffix(".ods")
+    table.write_bytes(open_document(EQUAL))
+    row = "do,2025-09-23,901,901,distribute,900001,general,7,7,8,8\n"
+    yield "equal cells and rows", differs(Said("import", table).output, row * 3)
+    for place, told in ((8, "cell I2: to2: found nothing"), (9, "cell J2: amount2: found nothing")):
+        cells = [EQUAL[0], [cell if at != place else "" for at, cell in enumerate(EQUAL[1])]]
+        path = path.with_name("half.csv")
+        path.write_text(as_csv(cells[0], iter(cells[1:])))
+        said = Said("import", path)
+        yield f"half of a share: {told}", None if said.status == 3 and told in said.errors else said
+    mapping = path.with_suffix(".ini")
+    mapping.write_text("[form]\namounts = 1.234.567\n")
+    path.write_text(as_csv(ACCOUNT[:9], iter([["1", "operator", "11", "open", "no", "no", "-1.250", "2.000", "0"]])))
+    said = Said("import", path, "--accounts", "--mapping", mapping)
+    yield "a sign before an amount", differs(said.output, "account,1,operator,11,open,no,no,-1250,2000,0\n")
+
+
+def replace_in(path: Path, name: str, old: str, new: str) -> None:
+    """Puts something else into a part of a workbook."""
+    with zipfile.ZipFile(path) as archive:
+        parts = {part: archive.read(part).decode() for part in archive.namelist()}
+    assert old in parts[name], parts[name]
+    with zipfile.ZipFile(path, "w") as archive:
+        for part, text in parts.items():
+            archive.writestr(part, text.replace(old, new) if part == name else text)
 
 
 def damaged_workbooks(work: Path) -> Iterator[tuple[str, object]]:
