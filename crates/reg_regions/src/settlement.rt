@@ -50,8 +50,8 @@ const REGIONS_EACH: u32 = 3;
 ///
 /// If the day can't be dealt out so, as with one worker, or if lists have no room for what belongs together, which is
 /// more than three fifths of all instructions, worker 0, which is the calling thread, carries out all of them in the
-/// order of the batch, and the book has one list afterwards. If there are fewer than 1,024 instructions, and the gate is
-/// open, it carries out all regions.
+/// order of the batch, and the book has one list afterwards. If there are fewer than 1,024 instructions, and the gate
+/// is open, it carries out all regions.
 ///
 /// There is a shift for each worker, from worker 0 on, and each place from 1 to the number of instructions is in one
 /// shift, once.
