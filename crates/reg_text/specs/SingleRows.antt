@@ -46,13 +46,13 @@ OneRowOfAnInstruction = (rows : List TextRow) (i : Instruction) → (instruction
 -- ---- a version
 
 -- the version that a row says, whose tag is `format`
-abbrev pub version_in : TextRow → Result Version Cause
-version_in r = if bytes_eq (field r 0) (tag_word tag.Format) then row_read widest tag.Format r else Err cause.Tag
+abbrev pub version_of_row : TextRow → Result Version Cause
+version_of_row r = if bytes_eq (field r 0) (tag_word tag.Format) then row_read widest tag.Format r else Err cause.Tag
 
 -- the version that the first of these rows says, if it says one
 abbrev pub version_told : List TextRow → Option Version
 version_told [] = None
-version_told (r ∷ rows) = result_ok (version_in r)
+version_told (r ∷ rows) = result_ok (version_of_row r)
 
 -- ---- a row of a log
 

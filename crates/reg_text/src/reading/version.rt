@@ -5,7 +5,7 @@ ghost use Rattle.csv.specs.Records.{fields_of};
 ghost use Rattle.reg_book.specs.Day.{DayValue};
 ghost use Rattle.reg_cuts.specs.Rows.{rows_in_text};
 ghost use Rattle.reg_text.specs.Reading.{IsReading};
-ghost use Rattle.reg_text.specs.SingleRows.{version_in, version_told};
+ghost use Rattle.reg_text.specs.SingleRows.{version_of_row, version_told};
 
 use crate::cause::Cause;
 use crate::fields::words::{Word, is_word};
@@ -20,7 +20,7 @@ use std::alloc::Global;
 
 // The version that a row with the tag `format` says.
 fn read_version_row(row: &ByteRecord) -> Result<Version, Cause>
-    ensures { result ≡ version_in (fields_of row.now) }
+    ensures { result ≡ version_of_row (fields_of row.now) }
 {
     if !is_word(field_at(row, 0), Tag::Format.word()) {
         return Err(Cause::Tag);
