@@ -116,10 +116,14 @@ def letters_of(work: Path, words: Words) -> dict[str, str]:
 
 
 def without_head(path: Path) -> str:
-    """A page without the head of the folder that it was made of: paths have none."""
-    return HEAD.sub("", path.read_text())
+    """A page without what only a folder knows: its head, what waits behind a month, and what was taken back."""
+    return HEAD.sub("", WAITING.sub("", COUNTED.sub(r"\1.", path.read_text())))
 
 
+COUNTED = re.compile(
+    r"(<p>Days: [0-9]+\. Done [0-9,]+, refused [0-9,]+), waiting [0-9,]+\.( Closings taken back: [0-9]+\.)?"
+)
+WAITING = re.compile(r"<h2>Waiting</h2>.*?(?=<h2>Changes by hand</h2>)", re.DOTALL)
 HEAD = re.compile(r" ?Head of the registry: [0-9a-f]{12}\.( Keep this page: [^<.]*\.)?")
 
 
