@@ -6,9 +6,7 @@ use crate::orders::{APART, TWICE};
 use crossbeam_utils::Backoff;
 use reg_base::{Batch, Rules};
 use reg_book::{Parts, settle_plain};
-use reg_regions::{
-    FreePlaces, OwnedRegion, PlaceGate, RegionsFault, WorkShift, settle_regions,
-};
+use reg_regions::{FreePlaces, OwnedRegion, PlaceGate, RegionsFault, WorkShift, settle_regions};
 use reg_text::{DayInput, write_book};
 use std::alloc::Global;
 use std::process::Abort;
