@@ -52,7 +52,9 @@ class Merged:
         which it is taken back."""
 
         def where(found: re.Match[str]) -> str:
-            (name, line), (item, _) = (own(found[1], int(found[2] or 0)) for own in (self.origin, self.item))
+            path, row = found[1], int(found[2] or 0)
+            name, line = self.origin(path, row)
+            item, _ = self.item(path, row)
             place = f" (place {item.place})" if item and note.startswith(LOOK) else ""
             return f"{name}:{line}{place}" if line else name
 
