@@ -7,8 +7,8 @@ ghost use Rattle.reg_base.specs.declared.calendar.CalendarFault.TheVariants.{Not
 
 use reg_base::{Calendar, CalendarFault, Day};
 
-/// The date on which an instruction falls due that was proposed on `proposed`: the working day with exactly `lag`
-/// working days from `proposed` up to it, if these working days have such a day.
+/// The date on which an instruction falls due that was proposed on `proposed`: the (`lag` + 1)th of these working
+/// days on or after `proposed`, if there are so many.
 ///
 /// # Errors
 /// `NotRising` if the days are no calendar.

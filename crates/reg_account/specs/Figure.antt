@@ -64,7 +64,7 @@ abbrev pub figure_by : RulesValue → AccountValue → ℕ → Result ℕ Figure
 figure_by rules a year (Ok emitted) = Ok (figure_with rules a year emitted)
 figure_by rules a year (Err fault) = Err fault
 
--- the compliance status figure of a year, unless no period has the year
+-- the compliance status figure of a year, unless no period has the year or the emissions of a year are missing
 abbrev pub figure_of : RulesValue → AccountValue → ℕ → Result ℤ FigureFault
 figure_of rules a year = if is_in_period rules year
     then figure_by rules a year (emitted_or_missing a (years_counted rules year)) else Err YearOutsidePeriod

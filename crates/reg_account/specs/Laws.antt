@@ -40,12 +40,12 @@ pub record ChangesKeepLimits : Type 0 where
 abbrev pub counted : AllowanceKind → AccountValue → ℕ
 counted kind a = held_by a kind + retired_by a Surrendered kind
 
--- an amount of one kind, as far as it is of another
+-- an amount of the kind `own`, as far as it counts for `kind`: all of it if they are one kind, else 0
 abbrev pub of_kind : AllowanceKind → AllowanceKind → ℕ → ℕ
 of_kind kind own amount = if is_same_kind own kind then amount else 0
 
--- what changes make of this number: a surrender leaves it as it is, a deletion takes its amount off, and a reversal
--- undoes that
+-- what changes make of this number: a credit adds its amount, a debit takes it off; a surrender leaves the number as it
+-- is, a deletion takes its amount off, and a reversal undoes what its row did
 pub record NumberLaws : Type 0 where
   pub credit : (a : AccountValue) (own : AllowanceKind) (amount : ℕ) (kind : AllowanceKind)
       → counted kind (credited a own amount) ≡ counted kind a + of_kind kind own amount
@@ -57,7 +57,7 @@ pub record NumberLaws : Type 0 where
       → row_in a.rows number ≡ Some row → CanUnretireRow a row
       → counted kind (unretired a number) ≡ counted kind a + amount_in Deleted kind row
 
--- of the trusted account list only the entry of the account changes that is put on it, or taken off it
+-- to put an account on the trusted account list, or take it off, changes its own entry alone
 pub record TrustLaws : Type 0 where
   pub trust : (a : AccountValue) (new : TrustedEntry) (other : ℕ) → IsAccount a
       → effective_in (with_trusted a new).trusted other
@@ -66,7 +66,7 @@ pub record TrustLaws : Type 0 where
       → effective_in (without_trusted a gone).trusted other
       ≡ (if gone == other then None else effective_in a.trusted other)
 
--- of the emissions (or determined figures) only those of the year change that is set
+-- to set the emissions (or the determined figure) of a year changes those of this year alone
 pub record YearLaws : Type 0 where
   pub set_emissions : (a : AccountValue) (new : Emission) (year : ℕ) → IsAccount a
       → emissions_in (with_emissions a new).emissions year

@@ -135,7 +135,7 @@ impl Account {
     }
 
     /// The correction factor of its compliance figures of this period, from -10^15 to 10^15 tonnes of carbon dioxide
-    /// equivalent. It is 0 where none was given.
+    /// equivalent. The periods are counted from 1. The factor is 0 where none was given.
     pub fn correction(&self, period: u8) -> i64
         ensures value { result ≡ correction_of self.now period }
         ensures limits { CorrectionFits result }
@@ -213,8 +213,8 @@ impl Account {
         self.parts.lists.trusted()
     }
 
-    /// The date on which this account's entry on the trusted account list takes effect, or `None` if the list has no
-    /// such entry. Found by binary search.
+    /// The date on which the entry of the account `other` on the trusted account list takes effect, or `None` if the
+    /// list has no such entry. Found by binary search.
     pub fn effective(&self, other: AccountNo) -> Option<Day>
         ensures { result ≡ effective_in self.now.trusted other }
     {
@@ -233,7 +233,7 @@ impl Account {
     /// entry of that account is replaced. The list must have fewer than 256 entries. Nothing else changes.
     ///
     /// # Errors
-    /// `NoMemory` if there was no room for the entry. The account is unchanged.
+    /// `NoMemory` if memory ran out. The account is unchanged.
     pub fn trust(&mut self, other: AccountNo, effective: Day) -> Result<(), NoMemory>
         requires { CanTrust self.old }
         ensures ok { OnOk result
@@ -264,8 +264,8 @@ impl Account {
         self.parts.lists.sum(Retirement::Surrendered, kind) as u64
     }
 
-    /// How many allowances of both kinds it has surrendered for this period, 0 to 2 x 10^15. Surrenders that were
-    /// reversed do not count.
+    /// How many allowances of both kinds it has surrendered for this period, 0 to 2 x 10^15. The periods are counted
+    /// from 1; for 0 and above 8 the answer is 0. Surrenders that were reversed do not count.
     pub fn surrendered_for(&self, period: u8) -> u64
         ensures value { result ≡ surrendered_in period self.now.rows }
         ensures limit { result ≤ MOST_RETIRED + MOST_RETIRED }
@@ -293,7 +293,7 @@ impl Account {
         self.parts.lists.rows()
     }
 
-    /// Its surrender or deletion with this record number, found by binary search.
+    /// Its surrender or deletion with this record number, or `None` if it has none. Found by binary search.
     pub fn row(&self, number: RecordNo) -> Option<RetirementRow>
         ensures { result ≡ row_in self.now.rows number }
     {
@@ -334,11 +334,12 @@ impl Account {
 
     /// Its compliance figure of this year as of now: the allowances of both kinds that it surrendered for the period of
     /// the year, minus its emissions of that period up to and including the year, plus its correction factor of the
-    /// period, in tonnes.
+    /// period: -4 x 10^15 to 4 x 10^15 tonnes of carbon dioxide equivalent. This is the figure of docs/RULES.md. It may
+    /// differ from the determined one.
     ///
     /// # Errors
-    /// The year is outside every period, or the first year of its period without emissions, if it is this one or
-    /// earlier.
+    /// `YearOutsidePeriod` if no period has the year. Otherwise `Missing`, with the first year of its period that has
+    /// no emissions, if this year or an earlier one of the period has none.
     pub fn figure(&self, rules: &Rules, year: Year) -> Result<i64, FigureFault>
         ensures value { result ≡ figure_of rules.now self.now year }
         ensures limits { IfOk result FigureFits }
@@ -347,11 +348,11 @@ impl Account {
     }
 
     /// Surrenders or deletes allowances: they leave the account, and the row is its last one. The row must not be
-    /// reversed, and the period of a surrender must be 1 to 8. Its number must be above those of the other rows, the
-    /// account must hold the amount, and all limits must stay met. Nothing else changes.
+    /// reversed, its amount must be at least 1, its number must be above those of the other rows, and the period of a
+    /// surrender must be 1 to 8. The account must hold the amount, and all limits must stay met. Nothing else changes.
     ///
     /// # Errors
-    /// `NoMemory` if there was no room for the row. The account is unchanged.
+    /// `NoMemory` if memory ran out. The account is unchanged.
     pub fn retire(&mut self, row: RetirementRow) -> Result<(), NoMemory>
         requires can { CanRetire self.old row }
         requires fate { FateFits row.fate }
@@ -377,11 +378,11 @@ impl Account {
         }
     }
 
-    /// Sets the emissions of a year, in tonnes of carbon dioxide equivalent. Earlier ones of that year are replaced.
-    /// Nothing else changes.
+    /// Sets the emissions of a year, at most 10^12 tonnes of carbon dioxide equivalent. Earlier ones of that year are
+    /// replaced. Nothing else changes.
     ///
     /// # Errors
-    /// `NoMemory` if there was no room for them. The account is unchanged.
+    /// `NoMemory` if memory ran out. The account is unchanged.
     pub fn set_emissions(&mut self, year: Year, tonnes: u64) -> Result<(), NoMemory>
         requires { tonnes ≤ MOST_EMISSIONS }
         ensures ok { OnOk result (self.new ≡ with_emissions self.old (record { year = year; tonnes = tonnes })) }
@@ -392,11 +393,11 @@ impl Account {
         Ok(())
     }
 
-    /// Sets the determined figure of a year, in tonnes of carbon dioxide equivalent. An earlier one of that year is
-    /// replaced. Nothing else changes.
+    /// Sets the determined figure of a year, -4 x 10^15 to 4 x 10^15 tonnes of carbon dioxide equivalent. An earlier
+    /// one of that year is replaced. Nothing else changes.
     ///
     /// # Errors
-    /// `NoMemory` if there was no room for it. The account is unchanged.
+    /// `NoMemory` if memory ran out. The account is unchanged.
     pub fn determine(&mut self, year: Year, tonnes: i64) -> Result<(), NoMemory>
         requires { FigureFits tonnes }
         ensures ok { OnOk result (self.new ≡ with_determined self.old (record { year = year; tonnes = tonnes })) }

@@ -187,7 +187,7 @@ impl History {
         }
     }
 
-    /// Puts these emissions in the place of their year. Earlier ones of that year are replaced.
+    /// Puts these emissions where they belong by year. Earlier ones of that year are replaced.
     ///
     /// # Errors
     /// `NoMemory` if memory ran out. The history is unchanged.
@@ -202,7 +202,7 @@ impl History {
         }
     }
 
-    /// Puts this determined figure in the place of its year. An earlier one of that year is replaced.
+    /// Puts this determined figure where it belongs by year. An earlier one of that year is replaced.
     ///
     /// # Errors
     /// `NoMemory` if memory ran out. The history is unchanged.
@@ -230,7 +230,7 @@ impl History {
         }
     }
 
-    /// Equal histories.
+    /// A second history, equal to this one.
     ///
     /// # Errors
     /// `NoMemory` if memory ran out.

@@ -166,7 +166,7 @@ impl Kept {
         }
     }
 
-    /// A second copy, with room for some rows more.
+    /// A second history, equal to this one, with room for some rows more.
     pub(crate) fn copy(&self, alloc: Global) -> Result<Kept, NoMemory>
         ensures { IfOk result (λ k. k ≡ self.now) }
     {

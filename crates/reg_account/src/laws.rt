@@ -14,7 +14,8 @@ pub fn changes_keep_limits()
     ensures { ChangesKeepLimits }
 {}
 
-/// What each change makes of the number of allowances that an account holds or has surrendered.
+/// What each change makes of the number of allowances that an account holds or has surrendered. A surrender and its
+/// reversal leave it as it is.
 pub fn number_laws()
     ensures { NumberLaws }
 {}
@@ -29,7 +30,7 @@ pub fn year_laws()
     ensures { YearLaws }
 {}
 
-/// What a reversal makes of the compliance figure.
+/// A reversal lowers the compliance figure of a year by the amount of its row, if the row counts for this figure.
 pub fn figure_laws()
     ensures { FigureLaws }
 {}

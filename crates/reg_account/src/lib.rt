@@ -11,8 +11,8 @@
 //! use reg_account::Account;
 //! use reg_base::{AllowanceKind, MOST_HELD};
 //!
-//! /// Moves allowances of a kind from one account to another, if the first holds them and the second has room for
-//! /// them. Answers whether it did. Nothing else changes.
+//! /// Moves allowances of a kind from one account to another, if the first holds them and the second may hold
+//! /// them too. Answers whether it did. Nothing else changes.
 //! pub fn pass_on(from: &mut Account, to: &mut Account, kind: AllowanceKind, amount: u64) -> bool
 //!     ensures answer { result ≡ (nat_le amount (held_by from.old kind)
 //!         && nat_le (held_by to.old kind + amount) MOST_HELD) }

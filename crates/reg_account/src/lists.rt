@@ -1,5 +1,4 @@
-//! The lists of an account: its correction factors of later periods, its representatives, its trusted account list, and
-//! its history.
+//! The lists of an account: its representatives, its trusted account list, and those of its history.
 
 ghost use Rattle.std.specs.Prelude.{◌≡◌, ◌++◌, [], ◌∷◌, false, IfOk, OnOk, OnErr, MatchOption};
 ghost use Rattle.reg_base.specs.Rising.{IsRising};
@@ -278,7 +277,7 @@ impl Lists {
         }
     }
 
-    /// Puts this entry in the place of its account. An earlier one of that account is replaced.
+    /// Puts this entry where it belongs by account number. An earlier one of that account is replaced.
     ///
     /// # Errors
     /// `NoMemory` if memory ran out. The lists are unchanged.
@@ -303,7 +302,7 @@ impl Lists {
         }
     }
 
-    /// Puts these emissions in the place of their year. Earlier ones of that year are replaced.
+    /// Puts these emissions where they belong by year. Earlier ones of that year are replaced.
     ///
     /// # Errors
     /// `NoMemory` if memory ran out. The lists are unchanged.
@@ -318,7 +317,7 @@ impl Lists {
         }
     }
 
-    /// Puts this determined figure in the place of its year. An earlier one of that year is replaced.
+    /// Puts this determined figure where it belongs by year. An earlier one of that year is replaced.
     ///
     /// # Errors
     /// `NoMemory` if memory ran out. The lists are unchanged.

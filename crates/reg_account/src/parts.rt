@@ -35,9 +35,10 @@ pub struct AccountParts {
     pub held: Holdings,
     /// Its correction factors of later periods (by rising period, 2 to 8; each from -10^15 to 10^15 tonnes, and none
     /// 0), its representatives (at most 64, by rising user number), its trusted account list (at most 256 entries, by
-    /// rising account number), its surrenders and deletions (at most 4,096, by rising record number; a surrender for a
-    /// period from 1 to 8; no surrendered and no deleted amount of a kind above 10^15), its emissions and its
-    /// determined figures (each by rising year).
+    /// rising account number), its surrenders and deletions (at most 4,096, by rising record number; each of 1 to 10^15
+    /// allowances; a surrender for a period from 1 to 8; no surrendered and no deleted sum of a kind above 10^15), its
+    /// emissions (by rising year; each 0 to 10^12 tonnes) and its determined figures (by rising year; each -4 x 10^15
+    /// to 4 x 10^15 tonnes).
     pub lists: Lists,
 }
 
@@ -61,7 +62,7 @@ pub enum AccountFault {
     /// the period of a surrender is not 1 to 8.
     #[error("the surrenders and deletions are more than 4,096, don't rise, or have an amount that is not 1 to 10^15 or a period that is not 1 to 8")]
     Rows,
-    /// A surrendered or a deleted amount of a kind is above 10^15 allowances.
+    /// What was surrendered, or deleted, of a kind and not reversed is together above 10^15 allowances.
     #[error("a surrendered or deleted amount is above 10^15 allowances")]
     Retired,
     /// The years of the emissions don't rise, or emissions are above 10^12 tonnes.

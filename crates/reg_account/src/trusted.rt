@@ -13,7 +13,7 @@ use smallvec::SmallVec;
 pub struct TrustedEntry {
     /// The account that is trusted.
     pub account: AccountNo,
-    /// The first date on which it is.
+    /// The first date on which this entry is in effect.
     pub effective: Day,
 }
 
@@ -54,7 +54,7 @@ pub(crate) fn is_in_effect(entries: &[TrustedEntry], account: AccountNo, day: Da
     }
 }
 
-/// Puts this entry in the place of its account. An earlier one of that account is replaced.
+/// Puts this entry where it belongs by account number. An earlier one of that account is replaced.
 ///
 /// # Errors
 /// `NoMemory` if memory ran out. The entries are unchanged.

@@ -53,7 +53,7 @@ fn tonnes_of(figure: Figure) -> i64
     figure.tonnes
 }
 
-/// Puts these emissions in the place of their year. Earlier ones of that year are replaced.
+/// Puts these emissions where they belong by year. Earlier ones of that year are replaced.
 ///
 /// # Errors
 /// `NoMemory` if memory ran out. The emissions are unchanged.
@@ -69,7 +69,7 @@ pub(crate) fn put_emission(emissions: &mut Vec<Emission>, new: Emission) -> Resu
     Ok(())
 }
 
-/// Puts this determined figure in the place of its year. An earlier one of that year is replaced.
+/// Puts this determined figure where it belongs by year. An earlier one of that year is replaced.
 ///
 /// # Errors
 /// `NoMemory` if memory ran out. The figures are unchanged.

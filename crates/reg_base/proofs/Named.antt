@@ -1,4 +1,4 @@
--- The accounts of the table of acts are those that the acts name.
+-- The accounts of the table of movements are those that the acts name.
 use Rattle.std.proofs.Common.{◌≡◌, ℕ, Bool, true, false, cond, eqb, [], ◌∷◌, refl, ap, ◌∙◌}
 use Rattle.std.proofs.lemmas.List.{append-nil}
 use Rattle.std.specs.Prelude.{not}

@@ -1,4 +1,5 @@
--- The table of acts: what each act does with its accounts. All that an act names follows from its row.
+-- The table of movements: what each act does with its accounts. All that an act names follows from its row. (What an
+-- act asks of its accounts is in the table of acts, in `ActRules.antt` of reg_rules.)
 use Rattle.std.specs.Prelude.{◌≡◌, ℕ, List, [], ◌∷◌, ◌++◌, map, Option, Some, None}
 use Rattle.std.specs.List.{sum_by}
 use Rattle.reg_base.specs.declared.kinds.AllowanceKind.{AllowanceKind}
@@ -40,7 +41,7 @@ distributing from kind shares = record {
   shares = shares;
 }
 
--- allowances leave an account for good, and no other account receives any
+-- allowances are surrendered or deleted: they leave an account, and no other account receives any
 abbrev pub retiring : ℕ → Retirement → AllowanceKind → ℕ → Movement
 retiring from way kind amount =
     record { first = from; change = Retire way kind amount; kind = kind; leaves = amount; shares = [] }
@@ -78,7 +79,7 @@ change_of act = (movement_of act).change
 abbrev pub shares : Act → List Share
 shares act = (movement_of act).shares
 
--- the amounts of allowances that are created, or leave for good
+-- the amounts of allowances that are created, surrendered or deleted
 abbrev pub amounts_named : Change → List ℕ
 amounts_named (Credit kind amount) = amount ∷ []
 amounts_named (Retire way kind amount) = amount ∷ []

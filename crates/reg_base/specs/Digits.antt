@@ -8,7 +8,7 @@ use Rattle.reg_base.specs.declared.digits.NumberFault.TheVariants.{NotANumber, O
 use Rattle.reg_base.specs.Numbers.{IsWithin}
 use Rattle.reg_base.specs.Periods.{is_within}
 
--- the text is not empty, and has no 0 before another digit
+-- the text is not empty, and does not begin with a 0 and go on (48 is the digit 0)
 abbrev pub starts_well : List ℕ → Bool
 starts_well [] = false
 starts_well (d ∷ []) = true

@@ -50,9 +50,9 @@ pub record NamedAccounts : Type 0 where
 abbrev pub alike : List ℕ → NamedAccounts
 alike accounts = record { touched = accounts; asked = accounts }
 
--- in the words of the rules, without the table of acts: an act reads or changes FROM and each TO, in their order, or
--- else its one account. The OTHER of an addition to a trusted list or of a removal is not among them; check 1 asks for
--- that of an addition
+-- in the words of the rules, without the table of movements: an act reads or changes FROM and each TO, in their order,
+-- or else its one account. The OTHER of an addition to a trusted list or of a removal is not among them; check 1 asks
+-- for that of an addition
 abbrev pub accounts_named : Act → NamedAccounts
 accounts_named (Transfer from to kind amount) = alike (from ∷ to ∷ [])
 accounts_named (Surrender from kind amount) = alike (from ∷ [])
@@ -76,8 +76,8 @@ touched_accounts act = (accounts_named act).touched
 abbrev pub asked_for : Act → List ℕ
 asked_for act = (accounts_named act).asked
 
--- law: the table of acts has just these accounts. So a footprint is FROM and each TO, or else the one account: each
--- once, where it is named first; and it is empty if the directory lacks one that check 1 asks for
+-- law: the table of movements has just these accounts. So a footprint is FROM and each TO, or else the one account:
+-- each once, where it is named first; and it is empty if the directory lacks one that check 1 asks for
 pub record ActsNameTheirAccounts : Type 0 where
   pub table : (act : Act) → parties act ≡ touched_accounts act
   pub known : (act : Act) → must_be_known act ≡ asked_for act

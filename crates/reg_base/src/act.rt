@@ -8,7 +8,7 @@ use crate::movement::{Change, Movement};
 use crate::numbers::{AccountNo, RecordNo, Year};
 use crate::shares::{Receivers, Shares};
 
-/// What an instruction is to do.
+/// What an instruction is to do. docs/RULES.md has a section on each act.
 #[derive(Clone, Copy, Debug, PartialEq, Eq)]
 pub enum Act {
     /// Allowances move from one holder's account to another.
@@ -67,7 +67,8 @@ pub enum Act {
         /// How many allowances: any number. A check refuses 0.
         amount: u64,
     },
-    /// Allowances move from a central account to another, or to the operator to whom they are allocated.
+    /// Allowances move from the total quantity account to an allocation account, or from there back, or on to the
+    /// operator or aircraft operator to whom they are allocated.
     CentralMove {
         /// The total quantity or allocation account that gives.
         from: AccountNo,
@@ -87,7 +88,8 @@ pub enum Act {
         /// The operators' and aircraft operators' accounts that receive, and how many each.
         shares: Shares,
     },
-    /// An account is put on the trusted account list of another. The entry takes effect after the list lag.
+    /// An account is put on the trusted account list of another. The entry takes effect after the list lag, which is
+    /// counted from the settlement day.
     Trust {
         /// The account whose list it is.
         account: AccountNo,
@@ -202,7 +204,7 @@ fn distributing(from: AccountNo, kind: AllowanceKind, shares: Shares) -> Movemen
     }
 }
 
-// Allowances leave an account for good, and no other account receives any.
+// Allowances are surrendered or deleted: they leave an account, and no other account receives any.
 fn retiring(from: AccountNo, retirement: Retirement, kind: AllowanceKind, amount: u64) -> Movement
     ensures { result ≡ retiring from retirement kind amount }
 {

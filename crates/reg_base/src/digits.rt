@@ -14,7 +14,7 @@ use thiserror::Error;
 /// Why a text is no number of the type that was asked for.
 #[derive(Clone, Copy, Debug, PartialEq, Eq, Error)]
 pub enum NumberFault {
-    /// It is empty, or has something else than decimal digits, or a 0 before another digit.
+    /// It is empty, or has something else than decimal digits, or begins with a 0 and goes on.
     #[error("not a number")]
     NotANumber,
     /// It is a number below the lowest or above the highest of the type.
@@ -22,7 +22,7 @@ pub enum NumberFault {
     OutOfRange,
 }
 
-// Whether the text is not empty and has no 0 before another digit.
+// Whether the text is not empty, and does not begin with a 0 and go on.
 fn starts_well(text: &[u8]) -> bool
     ensures { result ≡ starts_well text.now }
 {

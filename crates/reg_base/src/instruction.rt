@@ -30,7 +30,7 @@ pub struct Instruction {
 
 impl Instruction {
     /// The accounts that the instruction reads or changes: its act's first account and those that receive, each
-    /// once. None if one of them is not in the directory, nor if [`Movement::also_known`] is not.
+    /// once. The footprint is empty if one of them is not in the directory, or if [`Movement::also_known`] is not.
     pub fn touches(&self, directory: &Directory) -> Footprint
         ensures { result ≡ footprint directory.now self.now.act }
     {

@@ -1,5 +1,6 @@
-//! What a settlement day is made of: numbers within their limits, the working calendar, the rules,
-//! the directory of accounts, and the batch of due instructions with the accounts that each touches.
+//! What a day is made of, apart from its book: numbers within their limits, the working calendar, the rules, the
+//! directory of accounts, and the batch of instructions with the accounts that each touches; and the checks of an
+//! instruction, by code and name. docs/RULES.md says in words what these are.
 //!
 //! A use of it, proved in `example_uses/src/base.rt`:
 //!
@@ -11,8 +12,8 @@
 //!
 //! use reg_base::{Calendar, CalendarFault, Day};
 //!
-//! /// The date on which an instruction falls due that was proposed on `proposed`: the working day with exactly `lag`
-//! /// working days from `proposed` up to it, if these working days have such a day.
+//! /// The date on which an instruction falls due that was proposed on `proposed`: the (`lag` + 1)th of these working
+//! /// days on or after `proposed`, if there are so many.
 //! ///
 //! /// # Errors
 //! /// `NotRising` if the days are no calendar.

@@ -1,4 +1,5 @@
-//! The limits of this profile, each with its unit. This project set them; they don't come from the Regulation.
+//! The limits of this profile, each with its unit, as docs/RULES.md has them. This project set them; they don't come
+//! from the law.
 
 /// The most accounts of a book.
 pub const MOST_ACCOUNTS: usize = 100_000;

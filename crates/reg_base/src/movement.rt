@@ -63,7 +63,7 @@ pub enum Change {
     SetEmissions {
         /// The year.
         year: Year,
-        /// The emissions: any number. A check refuses more than 10^12.
+        /// The emissions, in tonnes of carbon dioxide equivalent: any number. A check refuses more than 10^12.
         tonnes: u64,
     },
     /// Its compliance status figure of a year is determined.
@@ -130,7 +130,7 @@ impl Movement {
 }
 
 impl Change {
-    // Whether the amount of allowances that is created or leaves for good is 0.
+    // Whether the amount of allowances that are created, surrendered or deleted is 0.
     fn names_zero(&self) -> bool
         ensures { result ≡ list_any (λ n. n == 0) (amounts_named self.now) }
     {
@@ -179,7 +179,7 @@ fn footprint_of(first: AccountNo, shares: &[Share]) -> Footprint
     footprint
 }
 
-// Whether a share, or the amount that is created or leaves for good, is 0.
+// Whether a share, or the amount that is created, surrendered or deleted, is 0.
 fn are_some_empty(shares: &[Share], change: &Change) -> bool
     ensures { result ≡ list_any (λ n. n == 0) (map (λ share. share.amount) shares.now ++ amounts_named change.now) }
 {

@@ -50,7 +50,7 @@ impl Model for Receivers {
 }
 
 impl Share {
-    /// What stands behind the last share where there are fewer than 8: nothing of account 1.
+    /// What stands behind the last share where there are fewer than 8: 0 allowances for account 1.
     pub const UNUSED: Share = Share {
         to: AccountNo::LOWEST,
         amount: 0,

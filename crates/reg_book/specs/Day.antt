@@ -46,7 +46,7 @@ log_of day = rows_of (setting day) day.book.accounts (day.batch.base + 1) day.ba
 abbrev pub replies_of : DayValue → List Reply
 replies_of day = replies_in (log_of day)
 
--- the log of a batch that was replied to so
+-- the log of a batch with these replies
 abbrev pub rows_replied : BatchValue → List Reply → List LogRow
 rows_replied batch replies = rows_from batch.day (batch.base + 1) batch.instructions replies
 

@@ -27,8 +27,8 @@ pub record IsSettled (s : SettledValue) : Type 0 where
   pub in_order : record_numbers s.rows ≡ count_up (s.base + 1) (length s.rows)
   pub numbered : 0 < length s.rows → s.base + length s.rows ≤ MOST_RECORD
 
--- the book after the settled day: the settled accounts are replaced, and the next record number has risen by the number
--- of log rows
+-- the book after the settled day: each settled account stands in the place of the one with its number, and the next
+-- record number has risen by the number of log rows
 abbrev pub committed : BookValue → SettledValue → BookValue
 committed book s = record { accounts = overlay book.accounts s.accounts; next = s.base + length s.rows + 1 }
 

@@ -7,7 +7,7 @@ use Rattle.reg_account.specs.Account.{AccountValue, held_by, retired_by}
 use Rattle.reg_book.specs.declared.totals.Totals.{Totals}
 use Rattle.reg_book.specs.declared.totals.BothTotals.{BothTotals}
 
--- of one kind
+-- the totals of one kind
 abbrev pub totals_in : List AccountValue → AllowanceKind → Totals
 totals_in accounts kind = record {
   held = sum_by (λ v. held_by v kind) accounts;
@@ -15,7 +15,7 @@ totals_in accounts kind = record {
   deleted = sum_by (λ v. retired_by v Deleted kind) accounts;
 }
 
--- of both kinds
+-- the totals of both kinds
 abbrev pub totals_of : List AccountValue → BothTotals
 totals_of accounts = record { general = totals_in accounts General; aviation = totals_in accounts Aviation }
 

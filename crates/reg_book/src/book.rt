@@ -172,8 +172,10 @@ impl Book {
         }
     }
 
-    /// Replaces the settled accounts in the book, raises the next record number by the number of log rows, and
-    /// answers these rows. All other accounts stay as they are. Takes no memory.
+    /// Replaces each account that the day touched by the settled one, raises the next record number by the number of
+    /// log rows, and answers these rows. All other accounts stay as they are. If the settled day begins with the book's
+    /// next record number, it must be of this book: its accounts are in the book, with the same kinds and holders, and
+    /// their surrenders and deletions have record numbers up to that of the last log row. Takes no memory.
     ///
     /// The time is linear in the book's accounts.
     ///
@@ -215,8 +217,8 @@ fn replace_accounts(accounts: &mut Vec<Account>, mut settled: Vec<Account>)
     }
 }
 
-// Of the accounts, the first `count` have numbers that are not higher than this one's. If the last of these has its
-// number, it is replaced.
+// Replaces the last of the first `count` accounts by this one, if it has the same number. These first ones are those
+// with numbers that are not higher.
 fn replace_last(accounts: &mut Vec<Account>, count: usize, account: Account)
     requires rising { IsRising (numbers accounts.old.items) }
     requires within_limits { All IsAccount accounts.old.items }

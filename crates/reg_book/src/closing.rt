@@ -20,8 +20,9 @@ pub struct ClosedDay {
     pub replies: Vec<Reply>,
 }
 
-/// Settles a batch on the book's own accounts. The book and the replies are those that `settle_plain` and then
-/// [`Book::commit`] give, but no account is copied. `settle_plain` is for callers that keep their book as it was.
+/// Settles a batch on the book's own accounts. The first record number of the batch must be the book's next one. The
+/// book and the replies are those that `settle_plain` and then [`Book::commit`] give, but no account is copied.
+/// `settle_plain` is for callers that keep their book as it was.
 ///
 /// The time is linear in the batch, except for the look-ups: an account is looked up once for each instruction that
 /// touches it.

@@ -17,12 +17,13 @@ use reg_account::Account;
 use reg_base::{AccountNo, Instruction, MOST_TOUCHED, NoMemory, likely_index};
 use std::alloc::Global;
 
-/// Indexes of the accounts that one instruction touches, in its order, each counted from 0. They are kept for each
-/// instruction of a batch, so they are short: a book has at most 100,000 accounts.
+/// Indexes of the accounts that one instruction touches, in the order of its footprint, each counted from 0. They are
+/// kept for each instruction of a batch, so each takes 32 bits alone: a book has at most 100,000 accounts.
 pub type Indexes = ArrayVec<u32, MOST_TOUCHED>;
 
-/// For each instruction the indexes of the accounts that it touches. An account is looked up once for each instruction
-/// that touches it.
+/// For each instruction the indexes of the accounts that it touches: none if an account that must be known is not in
+/// the list. The accounts must stand by rising number, and be at most 100,000. An account is looked up once for each
+/// instruction that touches it.
 ///
 /// # Errors
 /// `NoMemory` if memory ran out.
@@ -43,7 +44,8 @@ pub fn all_indexes(
     Ok(indexes)
 }
 
-/// The indexes of the accounts that the instruction touches, in its order. None if one that must be known is not there.
+/// The indexes of the accounts that the instruction touches, in the order of its footprint. There is no index if an
+/// account that must be known is not there.
 pub(crate) fn indexes_of(accounts: &[Account], instruction: &Instruction) -> Indexes
     requires rising { IsRising (numbers accounts.now) }
     requires few { length accounts.now ≤ MOST_ACCOUNTS }
@@ -94,7 +96,8 @@ fn find_indexes(accounts: &[Account], wanted: &[AccountNo]) -> Option<Indexes>
     Some(indexes)
 }
 
-/// The index of the account with this number in a list by rising number, counted from 0. Takes no memory.
+/// The index of the account with this number in a list by rising number, counted from 0, or `None` if it is not there.
+/// Takes no memory.
 ///
 /// The time is logarithmic in the accounts, and constant where their numbers rise evenly.
 pub fn index_of(accounts: &[Account], number: AccountNo) -> Option<usize>
@@ -143,7 +146,7 @@ pub(crate) fn ranks_of(alloc: Global, marks: &[bool]) -> Result<Vec<u32>, NoMemo
     Ok(ranks)
 }
 
-/// Puts the rank at each index in its stead.
+/// Replaces each index by the rank that stands at it.
 pub(crate) fn rank_all(indexes: &mut [Indexes], ranks: &[u32])
     requires { AllByRecursion (AllByRecursion (λ index. index < length ranks.now)) (index_lists indexes.old) }
     ensures { index_lists indexes.new ≡ map (each_at ranks.now) (index_lists indexes.old) }

@@ -18,9 +18,9 @@ pub struct ListedAccounts {
     // The list into which accounts are put.
     last: Vec<Account>,
     entries: Vec<(AccountNo, (AccountKind, HolderNo))>,
-    // A new list is begun behind one of so many accounts ..
+    // With so many accounts in the last list, a new one is begun, unless there are `most` lists before the last.
     size: usize,
-    // .. if there are fewer than so many lists before it.
+    // The most lists before the last one.
     most: usize,
 }
 
@@ -48,9 +48,9 @@ impl ListedAccounts {
         ListedAccounts::in_lists(alloc, 0, 0)
     }
 
-    /// No accounts. Those that are put into it will lie in lists of `size` accounts, and if so many come, the others
-    /// behind `most` such lists. Takes no memory: each list gets room for so many, and an eighth more, with its first
-    /// account, if there is memory.
+    /// No accounts. Those that are put into it will lie in lists of `size` accounts, at most `most` of them, and all
+    /// further ones in one list behind these. Takes no memory: each list gets room for `size` accounts, and an eighth
+    /// more, with its first account, if there is memory.
     pub fn in_lists(alloc: Global, size: usize, most: usize) -> Self
         ensures { result ≡ [] }
     {

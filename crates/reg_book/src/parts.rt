@@ -65,7 +65,9 @@ impl Parts {
         }
     }
 
-    /// The book of these accounts, which stand by rising number, in their lists, and the next record number.
+    /// The book of these accounts, in their lists, and the next record number, 1 to 10^15 + 1. The accounts must stand
+    /// by rising number and be at most 100,000, and their surrenders and deletions must have lower record numbers than
+    /// the next one.
     ///
     /// # Errors
     /// The accounts as they were, with `NoMemory`, if memory ran out.
@@ -89,7 +91,7 @@ impl Parts {
     /// A book as one list.
     ///
     /// # Errors
-    /// The book as it was, with `NoMemory`, if memory ran out: a list of one element is wanted.
+    /// The book as it was, with `NoMemory`, if memory ran out: the list of lists takes some.
     pub fn of_book(alloc: Global, book: Book) -> Result<Self, (Book, NoMemory)>
         ensures { MatchResult result (λ parts. parts ≡ book) (λ e. e.0 ≡ book) }
     {
@@ -256,8 +258,8 @@ fn ends_below(list: &[Account], number: AccountNo) -> bool
     }
 }
 
-/// What the accounts of lists together hold, have surrendered and have deleted, of both kinds. They are as few as those
-/// of a book. Takes no memory.
+/// What the accounts of lists together hold, have surrendered and have deleted, of both kinds. There must be at most
+/// 100,000 accounts, as in a book. Takes no memory.
 pub fn add_up_lists(lists: &[Vec<Account>]) -> BothTotals
     requires fit { All IsAccount (joined_lists lists.now) }
     requires few { length (joined_lists lists.now) ≤ MOST_ACCOUNTS }

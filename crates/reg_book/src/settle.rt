@@ -117,7 +117,7 @@ fn make_log(alloc: Global, batch: &Batch, replies: Vec<Reply>) -> Result<Vec<Log
 /// instruction: those of the accounts that it touches.
 ///
 /// # Errors
-/// `NoMemory` if memory ran out.
+/// `NoMemory` if memory ran out. Some instructions may have been carried out then.
 pub(crate) fn settle_all(
     alloc: Global,
     setting: &Setting,

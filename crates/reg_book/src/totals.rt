@@ -21,14 +21,14 @@ pub struct Totals {
 /// How many allowances of each kind accounts together hold, have surrendered and have deleted.
 #[derive(Clone, Copy, Debug, PartialEq, Eq)]
 pub struct BothTotals {
-    /// Of general allowances.
+    /// The totals of general allowances.
     pub general: Totals,
-    /// Of aviation allowances.
+    /// The totals of aviation allowances.
     pub aviation: Totals,
 }
 
 impl Totals {
-    // Of no account.
+    // The totals of no account.
     fn none() -> Totals
         ensures { result ≡ record { held = 0; surrendered = 0; deleted = 0 } }
     {

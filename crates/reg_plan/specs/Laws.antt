@@ -71,7 +71,7 @@ pub record LeadsFromLastToucher (directory : DirectoryValue) (is : List Instruct
   pub tail : arrow.from ≡ last_toucher directory is arrow.account (arrow.to - 1)
   pub is_one : 1 ≤ arrow.from
 
--- law: that is what an arrow is
+-- law: just these are the arrows
 abbrev pub TailsAreLastTouchers : Type 0
 TailsAreLastTouchers = (directory : DirectoryValue) (is : List Instruction) (arrow : Arrow) → IsArrow directory is arrow
     ↔ LeadsFromLastToucher directory is arrow

@@ -42,7 +42,7 @@ first_order_fault plan order =
     if length order == length plan.levels then first_fault_after plan.arrows (length plan.levels) [] order else Some
     Length
 
--- an order is refused for what is wrong first with it, or, where it has the right length, because a growth was refused
+-- an order is refused for what is wrong first with it, or, where it has the right length, because memory ran out
 abbrev pub IsOrderFault : PlanValue → List ℕ → OrderFault → Type 0
 IsOrderFault plan order Length = first_order_fault plan order ≡ Some Length
 IsOrderFault plan order NoMemory = length order ≡ length plan.levels

@@ -28,7 +28,7 @@ arrow_between x y = record { to = y.place; from = x.place; account = y.account }
 abbrev pub opening_at : Touch → Opening
 opening_at x = record { account = x.account; first = x.place }
 
--- the arrows of touches after one more
+-- the arrows of a touch and of those behind it
 abbrev pub arrows_after : Touch → List Touch → List Arrow
 arrows_after before [] = []
 arrows_after before (x ∷ xs) =
@@ -38,7 +38,7 @@ abbrev pub arrows_of : List Touch → List Arrow
 arrows_of [] = []
 arrows_of (x ∷ xs) = arrows_after x xs
 
--- the openings of touches after one more
+-- the openings of the touches behind this one, without that of its account
 abbrev pub openings_after : Touch → List Touch → List Opening
 openings_after before [] = []
 openings_after before (x ∷ xs) =

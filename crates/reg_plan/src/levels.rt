@@ -1,4 +1,4 @@
-//! The level of each place: how many instructions have to come before it, one after another.
+//! The level of each place: 1 more than how many instructions have to come before it, one after another.
 
 ghost use Rattle.std.specs.Prelude.{◌≡◌, ◌≤◌, All, IfOk, length};
 ghost use Rattle.std.specs.List.Sorted.{IsNonDecreasingBy};

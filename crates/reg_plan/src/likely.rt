@@ -15,12 +15,13 @@ pub struct LikelySlots<'a> {
 }
 
 impl<'a> LikelySlots<'a> {
-    // The slots from this one of a list on, counted from 0.
+    // The slots of a list from the index `first` on. Behind those of one instruction stand those of the next.
     pub(crate) fn from(slots: &'a [u32], first: usize) -> LikelySlots<'a> {
         LikelySlots { slots, first }
     }
 
-    /// The one at this position, counted from 0. Behind the last one the first slot of all stands for each.
+    /// The slot of the account at this index of the footprint, counted from 0. Behind the last account the answer is of
+    /// no use.
     pub fn at(&self, position: usize) -> u32 {
         match self.slots.get(self.first.saturating_add(position)) {
             Some(slot) => *slot,
@@ -28,7 +29,7 @@ impl<'a> LikelySlots<'a> {
         }
     }
 
-    /// The first one, which is then left out.
+    /// The slot of the first account, which is then left out.
     pub fn next(&mut self) -> u32 {
         let slot = self.at(0);
         self.first = self.first.saturating_add(1);

@@ -17,7 +17,7 @@ pub enum OrderFault {
     /// It has more or fewer numbers than the batch has instructions.
     #[error("the order has another length than the batch")]
     Length,
-    /// A growth was refused.
+    /// Memory ran out.
     #[error("out of memory")]
     NoMemory,
     /// The number at this position is no place.

@@ -57,7 +57,7 @@ impl Plan {
     /// The time is linear in the instructions, sorting apart.
     ///
     /// # Errors
-    /// `NoMemory` where a growth was refused.
+    /// `NoMemory` if memory ran out.
     pub fn of(alloc: Global, batch: &Batch, directory: &Directory) -> Result<Plan, NoMemory>
         ensures { IfOk result (λ plan. IsPlan directory.now batch.now.instructions plan) }
     {
@@ -66,11 +66,12 @@ impl Plan {
         Plan::of_found(alloc, batch, directory, found)
     }
 
-    /// The same as [`Plan::of`], by at most so many threads: each looks up the accounts of a run of `least`
-    /// instructions or more. If a thread can't be started, the calling thread does its work.
+    /// The same as [`Plan::of`], by at most so many threads, of which the calling one is one. Each looks up the
+    /// accounts of a run of instructions; if there are several runs, each has `least` instructions or more. If a thread
+    /// can't be started, the calling thread does its work.
     ///
     /// # Errors
-    /// `NoMemory` where a growth was refused.
+    /// `NoMemory` if memory ran out.
     pub fn of_with<R: Threads + Sync>(
         rt: &R,
         alloc: Global,
@@ -198,8 +199,8 @@ impl Plan {
     /// The time is linear in the instructions and the arrows, look-ups apart.
     ///
     /// # Errors
-    /// `Length` for a list of another length than the batch; `NoMemory` where a growth was refused; else the fault
-    /// of the first position that has one, in the order of [`OrderFault`].
+    /// `Length` for a list of another length than the batch; `NoMemory` if memory ran out; else the fault of the first
+    /// position that has one, in the order of [`OrderFault`].
     pub fn check_order(&self, alloc: Global, order: &[u32]) -> Result<(), OrderFault>
         ensures legal { OnOk result (first_order_fault self.now order.now ≡ None) }
         ensures fault { IfErr result (λ fault. IsOrderFault self.now order.now fault) }

@@ -121,12 +121,12 @@ impl Touched {
     }
 }
 
-// Puts places behind others, each so much later.
+// Puts the ends of further lists behind these ends, each raised by `later`.
 fn push_moved(ends: &mut Vec<usize>, later: usize, places: &[usize]) -> Result<(), NoMemory>
     ensures { OnOk result (ends.new.items ≡ ends.old.items ++ moved_by later places.now) }
 {
     for place in places {
-        // (nine touches for each of 16,384 instructions: the sum does not overflow)
+        // The sum never overflows: it is at most nine touches for each of 16,384 instructions.
         let Some(moved) = later.checked_add(*place) else {
             return Err(NoMemory);
         };

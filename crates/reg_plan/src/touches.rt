@@ -10,8 +10,8 @@ use crate::touched::Touched;
 use reg_base::{AccountNo, NoMemory};
 use std::alloc::Global;
 
-// Each account that an instruction touches with the instruction's place. The first instruction has this place. They are
-// sorted, so that `in_order` only has to merge those of several runs; nothing is promised of it.
+// Each account that an instruction touches with the instruction's place. The first instruction has the place `first`.
+// The touches are sorted, so that `in_order` only has to merge those of several runs; no contract promises this order.
 pub(crate) fn sorted_touches(
     alloc: Global,
     first: u32,

@@ -70,7 +70,7 @@ is_total_kind Operator = false
 is_total_kind Aircraft = false
 is_total_kind Trading = false
 
--- the accounts of the central administrator
+-- the central accounts: total quantity and allocation accounts
 abbrev pub is_central_kind : AccountKind → Bool
 is_central_kind Total = true
 is_central_kind Allocation = true

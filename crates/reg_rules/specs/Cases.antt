@@ -35,7 +35,8 @@ abbrev pub effect_day : Setting → Change → Option ℕ
 effect_day c (Trust other) = effective_day c
 effect_day c made = None
 
--- the figure that this change determines for an account, or why there is none
+-- the figure that this change determines for an account, or why there is none: YearOutsidePeriod too if it determines
+-- none
 abbrev pub figure_asked : RulesValue → Change → Option AccountValue → Result ℤ FigureFault
 figure_asked rules (Determine year) own = option_map_or (λ v. figure_of rules v year) own (Err YearOutsidePeriod)
 figure_asked rules made own = Err YearOutsidePeriod

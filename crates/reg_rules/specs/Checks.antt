@@ -63,7 +63,7 @@ destination_allows rule e =
     passes (λ v. fits_first_receiver rule.status v.status) e.first
     && list_all (λ r. passes (λ v. is_not_closed v.status) r.account) e.receivers
 
--- the table of surrenders lacks the first account's kind together with the kind of the allowances
+-- the surrender table lacks the first account's kind together with the kind of the allowances
 abbrev pub is_kind_not_allowed : RulesValue → Change → Seen → Bool
 is_kind_not_allowed rules (Retire Surrendered kind amount) e =
     passes (λ v. not (may_surrender rules v.kind kind)) e.first
@@ -129,7 +129,7 @@ is_retired_too_large made e = false
 abbrev pub has_all_rows : Seen → Bool
 has_all_rows e = passes (λ v. nat_le MOST_ROWS (length v.rows)) e.first
 
--- there is no room for the row of what is surrendered, or deleted
+-- something is surrendered, or deleted, and the account has as many rows as it may have
 abbrev pub are_rows_full : Change → Seen → Bool
 are_rows_full (Retire way kind amount) e = has_all_rows e
 are_rows_full made e = false

@@ -62,7 +62,7 @@ abbrev pub is_not_on_list : Change → Seen → Bool
 is_not_on_list (Untrust other) e = passes (λ v. is_none (effective_in v.trusted other)) e.first
 is_not_on_list made e = false
 
--- the first account's trusted list has no room for another entry
+-- an entry is to be added, and the first account's trusted list has as many as it may have
 abbrev pub is_list_full : Change → Seen → Bool
 is_list_full (Trust other) e = passes (λ v. nat_le MOST_TRUSTED (length v.trusted)) e.first
 is_list_full made e = false

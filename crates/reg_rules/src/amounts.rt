@@ -78,7 +78,7 @@ fn overfills(kind: AllowanceKind, account: &Account, amount: u64) -> bool
     MOST_HELD - account.held(kind) < amount
 }
 
-/// Whether the table of surrenders lacks the account's kind together with the kind of the allowances.
+/// Whether the surrender table lacks the account's kind together with the kind of the allowances.
 pub(crate) fn is_kind_not_allowed(case: &Case) -> bool
     ensures { result ≡ is_kind_not_allowed case.now.setting.rules (change_of case.now.instruction.act)
         (seen_in case.now) }
@@ -117,7 +117,7 @@ fn retires_too_much(way: Retirement, kind: AllowanceKind, amount: u64, account: 
     }
 }
 
-/// Whether there is no room for the row of what is surrendered, or deleted.
+/// Whether something is surrendered, or deleted, and the account has as many rows as it may have.
 pub(crate) fn are_rows_full(case: &Case) -> bool
     ensures { result ≡ are_rows_full (change_of case.now.instruction.act) (seen_in case.now) }
 {

@@ -34,7 +34,8 @@ use reg_base::{CHECKS, Day, Directory, Instruction, Movement, RecordNo, Refusal,
 
 /// The first check that fails, or `None` if no check fails. Takes no memory.
 ///
-/// `accounts` must be the accounts that the instruction touches, in the order of [`Instruction::touches`].
+/// `accounts` must be the accounts that the instruction touches, in the order of [`Instruction::touches`]. The answer
+/// does not depend on the record number.
 pub fn decide(
     rules: &Rules,
     day: Day,
@@ -94,7 +95,7 @@ pub(crate) fn judge(
     }
 }
 
-// The same if these are the first account of the instruction and those behind it.
+// The same, if `first` is the first account of the instruction, and those that receive stand at these indexes.
 fn judge_among<'a>(
     setting: &'a Setting,
     instruction: &'a Instruction,

@@ -1,4 +1,4 @@
-//! Years and emissions that an instruction names.
+//! Years and emissions that an instruction names, and the figure that it determines.
 
 ghost use Rattle.std.specs.Prelude.{◌≡◌, Some, IfOk};
 ghost use Rattle.reg_base.specs.Acts.{change_of};
@@ -33,7 +33,8 @@ pub(crate) fn enters_too_much(case: &Case) -> bool
     }
 }
 
-/// The figure that this change determines for the first account, or why there is none.
+/// The figure that this change determines for the first account, or why there is none: `YearOutsidePeriod` too if the
+/// change determines none.
 pub(crate) fn figure_asked(
     rules: &Rules,
     change: &Change,

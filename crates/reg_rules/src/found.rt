@@ -18,7 +18,7 @@ use reg_base::{Day, Instruction, Movement};
 /// What several checks of an instruction ask.
 #[derive(Clone, Copy, Debug, PartialEq, Eq)]
 pub struct Found {
-    /// The row of the act.
+    /// The row of the act in the table of acts.
     pub rule: ActRule,
     /// Whether the first account trusts each that receives on the settlement day.
     pub trusted: bool,
@@ -28,7 +28,8 @@ pub struct Found {
     pub row: Option<RetirementRow>,
     /// The day of effect of what is put on a trusted account list, if something is, and the calendar has the day.
     pub effective: Option<Day>,
-    /// The figure that is to be determined, or why there is none. Where none is to be, as for a year outside.
+    /// The figure that is to be determined, or why there is none. It is `YearOutsidePeriod` too if the act determines
+    /// no figure.
     pub figure: Result<i64, FigureFault>,
 }
 

@@ -7,7 +7,8 @@ ghost use Rattle.reg_rules.specs.Indexed.{accounts_at, StandAt};
 use reg_account::Account;
 use reg_base::{MOST_TOUCHED, Movement};
 
-/// The account at the first of these indexes, and the other indexes.
+/// The account at the first of these indexes, and the other indexes; `None` if no index is left, or no account is
+/// there.
 pub(crate) fn next_at<'a>(
     accounts: &'a [Account],
     indexes: &'a [u32],
@@ -28,7 +29,7 @@ pub(crate) fn next_at<'a>(
 
 const FRONT: [u32; MOST_TOUCHED] = [0, 1, 2, 3, 4, 5, 6, 7, 8];
 
-/// The indexes of all accounts of a list, in its order: no more than this movement has.
+/// The indexes of all accounts of a list, in its order. The list has no more accounts than this movement has.
 pub(crate) fn front(accounts: &[Account], movement: &Movement) -> &'static [u32]
     requires { length accounts.now ≤ 1 + length movement.now.shares }
     ensures all { accounts_at accounts.now result.now ≡ accounts.now }

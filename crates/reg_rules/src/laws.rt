@@ -45,8 +45,7 @@ pub fn step_keeps_closed()
     ensures status { ClosedIsNeverLeftInStep }
 {}
 
-/// The determined figure that check 22 looks at is that of the latest year of the period, since an account's figures
-/// rise by year.
+/// Check 22 finds the latest year of the period that has a determined figure, since an account's figures rise by year.
 pub fn latest_is_of_the_latest_year()
     ensures { LatestIsOfTheLatestYear }
 {}

@@ -1,5 +1,5 @@
-//! The rules of the registry: which instructions are refused and why, what an accepted instruction does, and its
-//! row in the log.
+//! The rules of the registry, as docs/RULES.md has them: which instructions are refused and why, what an accepted
+//! instruction does, and its row in the log.
 //!
 //! A use of it, proved in `example_uses/src/rules.rt`:
 //!

@@ -38,14 +38,14 @@ pub(crate) fn is_reversal(change: &Change) -> bool
     }
 }
 
-/// Whether it was reversed before.
+/// Whether there is a row, and it was reversed before.
 pub(crate) fn is_reversed(row: Option<RetirementRow>) -> bool
     ensures { result ≡ option_map_or (λ row. row.reversed) row false }
 {
     row.is_some_and(|row| row.reversed)
 }
 
-/// Whether the last day for the reversal of the row is over.
+/// Whether there is a row, and the last day for its reversal is over. It is not over if the calendar has no such day.
 pub(crate) fn is_window_over(setting: &Setting, row: Option<RetirementRow>) -> bool
     ensures { result ≡ option_map_or (is_past_window setting.now) row false }
 {
@@ -117,7 +117,7 @@ fn becomes_negative_by(
     }
 }
 
-// Whether the figure of the latest year of the period becomes negative that has a determined one.
+// Whether the figure becomes negative that belongs to the latest year of the period with a determined figure.
 fn becomes_negative_in(
     rules: &Rules,
     number: RecordNo,

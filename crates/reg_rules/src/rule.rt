@@ -1,4 +1,5 @@
-//! The table of acts: what each asks of its accounts, who proposes and approves it, and how long it waits.
+//! The table of acts of docs/RULES.md: what each act asks of its accounts, who proposes and approves it, and how long
+//! it waits.
 
 ghost use Rattle.std.specs.Prelude.{◌≡◌};
 ghost use Rattle.reg_rules.specs.ActRules.{act_row, rule_of, is_holder_kind, is_operator_kind, is_allocation_kind};
@@ -59,13 +60,15 @@ pub enum Role {
     Approver,
 }
 
-/// The lag between the day of the proposal and the due day, and with it whether trust decides on the approval.
+/// The lag between the day of the proposal and the due day. Where trust decides on the lag, it decides also whether the
+/// act needs an approval, and whether it is refused as not trusted.
 #[derive(Clone, Copy, Debug, PartialEq, Eq)]
 pub enum LagRule {
     /// The lag of transfers: one if the account that receives is trusted on the settlement day, another if it is not.
-    /// The first account may need no approval if it is, and may forbid the act if it is not.
+    /// If it is trusted, the act needs no approval from an account with the waiver. If it is not, the act is refused
+    /// for an account that allows no transfers outside its trusted account list.
     ByTrust,
-    /// None.
+    /// 0 working days: the due day is the first working day on or after the day of the proposal.
     NoLag,
 }
 

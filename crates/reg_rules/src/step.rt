@@ -78,7 +78,9 @@ pub fn execute(
 }
 
 /// Carries the instruction out on a list of accounts that has those that it touches, or refuses it: those are at these
-/// indexes, in the order of [`Instruction::touches`]. The movement is what the act does. All else is as in [`execute`].
+/// indexes, counted from 0, in the order of [`Instruction::touches`]. `movement` must be [`Act::movement`] of the
+/// instruction. No account may be in the list twice, and the record number must be above those of the surrenders and
+/// deletions of all accounts of the list. All else is as in [`execute`].
 ///
 /// # Errors
 /// `NoMemory` if there was no memory for what its accounts then hold, or for what the act adds to its first account. No

@@ -86,7 +86,8 @@ fn is_waived(case: &Case) -> bool
     }
 }
 
-/// Whether an account that receives is not trusted, although the act depends on it and the first account asks for it.
+/// Whether the act depends on trust, an account that receives is not trusted, and the first account allows transfers to
+/// trusted accounts alone.
 pub(crate) fn is_not_trusted(case: &Case) -> bool
     ensures { result ≡ is_not_trusted case.now.setting (rule_of case.now.instruction.act).lag (seen_in case.now) }
 {
@@ -144,7 +145,7 @@ pub(crate) fn is_not_on_list(case: &Case) -> bool
     }
 }
 
-/// Whether the first account's list has no room for another entry.
+/// Whether an entry is to be added, and the first account's list has as many as it may have.
 pub(crate) fn is_list_full(case: &Case) -> bool
     ensures { result ≡ is_list_full (change_of case.now.instruction.act) (seen_in case.now) }
 {
