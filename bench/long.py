@@ -1,7 +1,8 @@
 #!/usr/bin/env -S python3 -B
-"""Tries the program for hours: many drawn days, seams at every row, days at every limit at once, and a gigabyte.
+"""Tries the program for hours: many drawn days, seams at every row, files that change meanwhile, days at every limit at
+once, and a gigabyte.
 
-usage: long.py days|orders|seams|limits|gigabyte [--program PROGRAM] [--workers WORKERS] [--refusals REFUSALS]
+usage: long.py days|orders|seams|changing|limits|gigabyte [--program PROGRAM] [--workers WORKERS] [--refusals REFUSALS]
                [--minutes N] [--count N] [--seed N] [--jobs N] [--folder FOLDER]
 
 PROGRAM is out/registry, unless another is named. WORKERS and REFUSALS are the programs bench_workers and
@@ -25,6 +26,9 @@ seams     draws such texts, and texts of cases/ that were changed (`mutations.py
           where none follows at the next instruction. Every answer must be that of the second answer. REFUSALS, if it is
           named, reads each text by one to eight parts, and by so many that each account and each instruction begins
           one: the day, or the first fault, must be that of one thread.
+changing  settles a day of 7 MB from a file that somebody cuts short, or adds rows to, at a drawn moment of the run, by
+          one to eight workers in turn. The answer must be the report of the whole text, or a fault and no output. At
+          its end it says how often which came; both must have come.
 limits    settles days at every limit at once, by one to eight workers: 100,000 accounts with 64 representatives, 256
           trusted accounts and 7 correction factors each, 64 administrators, every day of all years, 16,384 instructions
           up to the last record number; and 1,000 accounts with 4,096 surrenders each besides. What must come out is
@@ -32,13 +36,14 @@ limits    settles days at every limit at once, by one to eight workers: 100,000 
 gigabyte  settles such a day of 2^30 bytes, with emissions of each year, by one, four and eight workers, and refuses one
           byte more.
 
-`days`, `orders` and `seams` end after N minutes (left out: 10) or N texts; the same seed gives the same texts. FOLDER
+`days`, `orders`, `seams` and `changing` end after N minutes (left out: 10) or N texts; the same seed gives the same texts. FOLDER
 is where `limits` and `gigabyte` put their texts, of up to a gigabyte, and where texts on which an answer differs are
 kept (left out: out/long). N jobs run at once (left out: 1). The last line is 'N passed, M failed', which counts texts,
 or runs by `limits` and `gigabyte`.
 """
 import argparse
 import datetime
+import functools
 import itertools
 import os
 import re
@@ -51,11 +56,13 @@ from concurrent.futures import ProcessPoolExecutor
 from dataclasses import dataclass
 from pathlib import Path
 from random import Random
+from typing import BinaryIO
 
 import beside  # noqa: F401 (it finds the modules of cases/)
 from harness import TOP, Trials, program_of
 
 from registry_tools.second import faults
+import days
 import fuzz
 import mutations
 from registry_tools.second import rules
@@ -79,6 +86,10 @@ MOST_SECONDS, MOST_SECONDS_OF_MANY = 60, 300
 MOST_INPUT = 2**30
 ROUND = 64
 DATE, LAST_RECORD, MOST_INSTRUCTIONS = "2025-03-31", 10**15, 16_384
+# A file that changes has so many accounts, and a change comes at most so many seconds behind the start of a run.
+ACCOUNTS_OF_LONG, LONGEST_WAIT = 70_000, 0.15
+# What is told of an input that has a fault, or that can't be read to its end.
+FAULT = re.compile(rb"(row \d+: [a-z -]+|read failed)\n")
 # How many passed, and how many failed.
 Tally = tuple[int, int]
 
@@ -290,6 +301,59 @@ def try_drawn(words: Words) -> Tally:
     return passed, failed
 
 
+# Files that change meanwhile.
+
+
+@functools.cache
+def long_day() -> tuple[bytes, bytes]:
+    """A day text of some MB, and its report."""
+    text = "".join(f"{row}\n" for row in days.day_text(ACCOUNTS_OF_LONG, 1_000)).encode()
+    return text, rules.answers(text)["settle"].encode()
+
+
+def change(chance: Random, file: BinaryIO) -> None:
+    """Cuts a file short somewhere, or adds a row or an empty line to it."""
+    end = file.seek(0, os.SEEK_END)
+    if chance.random() < 0.5:
+        file.truncate(chance.randrange(end))
+    else:
+        file.write(chance.choice([b"\n", b"end\n"]))
+
+
+def changed_meanwhile(task: Task) -> tuple[bool, str]:
+    """Whether the file was read before somebody changed it, and what is wrong with the answer."""
+    words, number, _ = task
+    chance, (text, report) = Random(f"changing {words.seed} {number}"), long_day()
+    with tempfile.NamedTemporaryFile(buffering=0) as file, open(file.name, "rb") as theirs:
+        file.write(text)
+        workers = str(WORKERS[number % len(WORKERS)])
+        with subprocess.Popen(
+            [words.program, "settle", "--workers", workers],
+            stdin=theirs, stdout=subprocess.PIPE, stderr=subprocess.PIPE,
+        ) as run:  # fmt: skip
+            time.sleep(chance.random() * LONGEST_WAIT)
+            change(chance, file)
+            output, errors = run.communicate(timeout=MOST_SECONDS)
+    is_whole = (output, errors, run.returncode) == (report, b"", 0)
+    is_refused = not output and run.returncode in (3, 5) and FAULT.fullmatch(errors)
+    said = f"{workers} workers, run {number}: status {run.returncode}, {len(output)} bytes, {errors[:100]!r}"
+    return is_whole, "" if is_whole or is_refused else said
+
+
+def try_changing(words: Words) -> Tally:
+    """Tries files that change until the time is over. Answers how many runs passed and failed."""
+    until, whole, failed, runs = time.monotonic() + 60 * words.minutes, 0, 0, 0
+    with ProcessPoolExecutor(words.jobs) as pool:
+        while time.monotonic() < until and runs < words.count:
+            for is_whole, said in pool.map(changed_meanwhile, [(words, runs + place, []) for place in range(ROUND)]):
+                runs, whole, failed = runs + 1, whole + is_whole, failed + bool(said)
+                if said:
+                    print(f"DIFFERS: {said}", flush=True)
+    faults_told = runs - whole - failed
+    print(f"{runs} runs: {whole} had read the text before, {faults_told} told a fault")
+    return runs - failed, failed + (not whole) + (not faults_told)
+
+
 # Days at every limit.
 
 
@@ -453,7 +517,7 @@ def try_gigabyte(words: Words) -> Tally:
 
 def arguments() -> Words:
     parser = argparse.ArgumentParser(description=__doc__, formatter_class=argparse.RawDescriptionHelpFormatter)
-    parser.add_argument("part", choices=["days", "orders", "seams", "limits", "gigabyte"])
+    parser.add_argument("part", choices=["days", "orders", "seams", "changing", "limits", "gigabyte"])
     parser.add_argument("--program", type=program_of, default=str(TOP / "out" / "registry"))
     parser.add_argument("--workers", type=program_of)
     parser.add_argument("--refusals", type=program_of)
@@ -474,7 +538,7 @@ def main() -> int:
             words.delay = Path(work, "delay.so")
             source = TOP / "bench" / "delay.c"
             subprocess.run(["cc", "-shared", "-fPIC", "-O1", "-o", words.delay, source, "-ldl"], check=True)
-        parts = {"limits": try_limits, "gigabyte": try_gigabyte}
+        parts = {"changing": try_changing, "limits": try_limits, "gigabyte": try_gigabyte}
         trials.passed, trials.failed = parts.get(words.part, try_drawn)(words)
     return trials.end()
 
