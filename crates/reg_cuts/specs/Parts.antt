@@ -30,19 +30,21 @@ has_quote (c ∷ rest) = (c == 34) || has_quote rest
 abbrev pub text_of_parts : List (Bor (List ℕ)) → List ℕ
 text_of_parts parts = flat_map (λ part. part.now) parts
 
--- law: from a state between two rows, whatever the bytes behind it
+-- law: if bytes lead from a state between two rows to such a state, their rows come first, and then those of the rest
+-- read alone
 abbrev pub EachSplitSplits : Type 0
 EachSplitSplits = (s : State) (a b : List ℕ) → ends_at_end s ≡ false → ends_at_end (machine_after s a) ≡ false
     → rows_read s (a ++ b) ≡ rows_read s a ++ records default_config b
 
--- law: of whole texts, with their byte order marks
+-- law: the same of whole texts, whose byte order mark is skipped at the very start alone
 abbrev pub EachCutSplits : Type 0
 EachCutSplits = (a b : List ℕ) → IsCut a → HasNoMark b → rows_in_text (a ++ b) ≡ rows_in_text a ++ rows_in_text b
 
--- law: cuts one after another
+-- law: if a text may be cut behind each of two parts, the second of which has no byte order mark, it may be cut behind
+-- both together
 abbrev pub CutsGoOn : Type 0
 CutsGoOn = (a b : List ℕ) → IsCut a → HasNoMark b → IsCut b → IsCut (a ++ b)
 
--- law: whole lines without quotes
+-- law: a text may be cut behind lines without quotes, the last of which ends with a line feed
 abbrev pub LinesWithoutQuotesAreCuts : Type 0
 LinesWithoutQuotesAreCuts = (a : List ℕ) → has_quote a ≡ false → slice_get a (length a - 1) ≡ Some 10 → IsCut a

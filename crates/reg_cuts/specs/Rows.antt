@@ -25,7 +25,7 @@ known_rest reader = source_of (λ s. Some s.now) reader
 abbrev pub rest_of : Reader (Bor (List ℕ)) → List ℕ
 rest_of reader = unwrap_or (known_rest reader) []
 
--- the rows in these bytes, if the reader is between two rows
+-- the rows that csv's machine reads in these bytes from this state, which is between two rows
 abbrev pub rows_read : State → List ℕ → List TextRow
 rows_read state bytes = records_from default_config (length bytes + 1) state bytes
 

@@ -8,22 +8,25 @@ pub fn each_text_has_few_rows()
     ensures { EachTextHasFewRows }
 {}
 
-/// Where the machine of csv stands between two rows, the rows behind it are those of the rest read alone.
+/// If bytes lead the machine of csv from between two rows to between two rows again, then the rows of these bytes and a
+/// rest are those of the bytes, and behind them those of the rest read alone.
 pub fn each_split_splits()
     ensures { EachSplitSplits }
 {}
 
-/// The same of whole texts, whose byte order mark is skipped at the very start alone.
+/// The same of whole texts: if a text may be cut behind its first part, its rows are those of this part and of the rest
+/// read alone, unless the rest begins with a byte order mark. (A mark is skipped at the very start of a text alone.)
 pub fn each_cut_splits()
     ensures { EachCutSplits }
 {}
 
-/// A part behind which a text may be cut, added to a text that may be cut behind it, gives such a text.
+/// If a text may be cut behind each of two parts, and the second one does not begin with a byte order mark, a text may
+/// be cut behind both together.
 pub fn cuts_go_on()
     ensures { CutsGoOn }
 {}
 
-/// A text may be cut behind whole lines without a quote.
+/// A text may be cut behind lines without a quote, the last of which ends with a line feed.
 pub fn lines_without_quotes_are_cuts()
     ensures { LinesWithoutQuotesAreCuts }
 {}

@@ -1,5 +1,5 @@
-//! The rows of a csv text, and of parts of it: where a text may be cut so that the rows of its parts, one after
-//! another, are those of the whole.
+//! The rows of a csv text, as docs/FORMATS.md has them, and of parts of it: where a text may be cut so that the rows of
+//! its parts, one after another, are those of the whole.
 //!
 //! A use of it, proved in `example_uses/src/cuts.rt`:
 //!
@@ -9,7 +9,7 @@
 //!
 //! use reg_cuts::{each_cut_splits, has_no_mark, is_cut};
 //!
-//! /// Whether what stands behind a part of a text can be read without it.
+//! /// True only if what stands behind a part of a text can be read without that part. It may be false although it can.
 //! pub fn stands_alone(before: &[u8], behind: &[u8]) -> bool
 //!     ensures { result ≡ true → rows_in_text (before.now ++ behind.now)
 //!         ≡ rows_in_text before.now ++ rows_in_text behind.now }

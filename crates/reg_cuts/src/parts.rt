@@ -20,8 +20,8 @@ fn has_quote(part: &[u8]) -> bool
     memchr(QUOTE, part).is_some()
 }
 
-/// Whether the part has no quote, and ends with a line feed. If so, the text may be cut behind it. A text may also be
-/// cut behind quoted fields, but only one thread that has read all before would know.
+/// Whether the part has no quote, and ends with a line feed. If so, a text that begins with it may be cut behind it. A
+/// text may also be cut behind quoted fields, but to know where, a thread has to read all bytes before.
 #[tactic(auto, using(crate::proofs::lemmas::Splits::whole))]
 pub fn is_cut(part: &[u8]) -> bool
     ensures { result ≡ true → IsCut part.now }
@@ -36,10 +36,11 @@ pub fn has_no_mark(part: &[u8]) -> bool
     part.first().copied() != Some(MARK)
 }
 
-/// Cuts a text into at most so many parts of about the same size, each by `cut_near`.
+/// Cuts a text into at most `count` parts of about the same size, each by [`cut_near`] with these starts. `count` must
+/// be at least 1. The parts, one after another, are the text.
 ///
 /// # Errors
-/// If memory ran out.
+/// `AllocError` if memory ran out.
 pub fn cut_parts<'t>(
     alloc: Global,
     text: &'t [u8],
@@ -64,9 +65,9 @@ pub fn cut_parts<'t>(
     Ok(parts)
 }
 
-/// Cuts a text before the first line that begins at or behind a point with the first of these starts; if there is none,
-/// with the second one, and so on; if there is none at all, at its end. A start begins with a line feed, which stays in
-/// front of the cut.
+/// Cuts a text before the first line that begins behind the index `near` with the first of these starts; if there is
+/// none, with the second one, and so on; if there is none at all, at its end. A start begins with a line feed, which
+/// stays in front of the cut, so no text is cut before its first line. `near` must be at most the length of the text.
 pub fn cut_near<'t>(text: &'t [u8], starts: &[&[u8]], near: usize) -> (&'t [u8], &'t [u8])
     requires { near ≤ length text.now }
     ensures { result.0.now ++ result.1.now ≡ text.now }

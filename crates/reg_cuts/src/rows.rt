@@ -10,7 +10,7 @@ use csv::{ByteRecord, Error, ErrorKind, Reader, ReaderBuilder};
 use reg_base::NoMemory;
 use std::alloc::Global;
 
-/// A reader at the first row of a text.
+/// A reader at the first row of a text. No row is a header, and the rows may have any numbers of fields.
 pub fn start_rows(alloc: Global, text: &[u8]) -> Reader<&[u8]>
     ensures between { IsBetweenRows result }
     ensures rows { rows_left result ≡ rows_in_text text.now }
@@ -21,11 +21,12 @@ pub fn start_rows(alloc: Global, text: &[u8]) -> Reader<&[u8]>
         .from_reader(alloc, text)
 }
 
-/// Reads the next row into `row`, and answers whether there was one.
+/// Reads the next row into `row`, and answers whether there was one. The reader must come from [`start_rows`], and each
+/// call with it so far must have answered a row.
 ///
 /// # Errors
-/// `NoMemory` if memory ran out, or if the bytes could not be read. Bytes in memory can always be read. The reader is
-/// of no use then.
+/// `NoMemory` if memory ran out, or if the bytes could not be read, which bytes in memory always can. The reader is of
+/// no use after an error.
 pub fn next_row(reader: &mut Reader<&[u8]>, row: &mut ByteRecord) -> Result<bool, NoMemory>
     requires { IsBetweenRows reader.old }
     ensures between { IfOk result (λ found. IsTrue found → IsBetweenRows reader.new) }
@@ -39,7 +40,7 @@ pub fn next_row(reader: &mut Reader<&[u8]>, row: &mut ByteRecord) -> Result<bool
     }
 }
 
-// An error of the reader. The rows may have any lengths and bytes, so that no other error can come.
+// An error of the reader: of memory or of its bytes. The rows may have any lengths and bytes, so no other one can come.
 fn out_of_memory(error: &Error) -> NoMemory
     requires { IsOfMemory (error_kind error.now) }
 {

@@ -59,7 +59,7 @@ pub record FitsSoFar (d : DraftValue) : Type 0 where
   pub retired : RetiredFits d.lists.rows
   pub unbegun : d.head ≡ None → d.lists ≡ no_lists
 
--- and before the first account none is begun, but after each row of a block one is
+-- and if no account is begun, no block is over, and the last row is none of a block
 pub record IsDraft (d : DraftValue) : Type 0 where
   pub fits : FitsSoFar d
   pub first : d.head ≡ None → d.accounts ≡ []

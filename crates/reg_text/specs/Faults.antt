@@ -58,16 +58,17 @@ abbrev pub is_recorded : Option ℕ → RetirementRow → Bool
 is_recorded None row = true
 is_recorded (Some next) row = nat_lt row.number next
 
--- with it, what was surrendered (or deleted) of its kind is within the limit
+-- with it, what was surrendered (or deleted) of its kind, and not reversed, is within the limit
 abbrev pub is_sum_left : List RetirementRow → RetirementRow → Bool
 is_sum_left rows row = nat_le (retired_in (retirement_of row.fate) row.kind (rows ++ row ∷ [])) MOST_RETIRED
 
--- an account has space for one more surrender or deletion, it is one of before the day, and not too much
+-- an account has space for one more surrender or deletion, its number is below the next one, and the sum stays within
+-- the limit
 abbrev pub has_row_space : Option ℕ → List RetirementRow → RetirementRow → Bool
 has_row_space next rows row = nat_lt (length rows) MOST_ROWS && (is_recorded next row && is_sum_left rows row)
 
--- its section may have one more row, an instruction has a record number, and a surrender or a deletion is one of before
--- the day, and not too much
+-- its section may have one more row, an instruction has a record number, and a surrender or a deletion has a number
+-- below the next one, and the sum stays within the limit
 abbrev pub has_space : (t : Tag) → DraftValue → Said t → Bool
 has_space tag.Account d x = nat_lt (account_count d) MOST_ACCOUNTS
 has_space tag.Retired d x = has_row_space (next_in d.heading.days) d.lists.rows x

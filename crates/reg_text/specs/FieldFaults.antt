@@ -14,7 +14,7 @@ IsNumberText f = (n : ℕ) × (f ≡ number n) × (n < 2 ^ 64)
 abbrev pub IsSignedText : List ℕ → Type 0
 IsSignedText f = (z : ℤ) × (f ≡ signed z) × (unsigned_abs z < 2 ^ 64)
 
--- the text of a day that the calendar has, in any year of four digits
+-- the text of a day that the Gregorian calendar has, in any year of four digits
 pub record IsDateText (f : List ℕ) : Type 0 where
   pub year : ℕ
   pub month : ℕ

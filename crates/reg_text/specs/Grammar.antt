@@ -57,7 +57,7 @@ yes_or_no = a_word yes_no_word yes_no_of
 
 -- ---- the rows with several fields
 
--- YEAR,YEAR: the last is not before the first
+-- FIRST,LAST: the last is not before the first
 abbrev pub period_fields : Fields (ℕ × ℕ)
 period_fields = provided (λ p. nat_le p.0 p.1) cause.Order (a_year ▸ last a_year)
 
@@ -75,7 +75,7 @@ abbrev pub pair_fields : Fields (AccountKind × AllowanceKind)
 pair_fields = provided (λ p. is_operator_kind p.0) cause.Word
     (a_word account_kind_name account_kind_of ▸ last (a_word allowance_kind_name kind_of))
 
--- NO,ACCOUNTKIND,HOLDER,STATUS,OUTSIDE,WAIVER,CORRECTION,GENERAL,AVIATION
+-- NO,KIND,HOLDER,STATUS,OUTSIDE,WAIVER,CORRECTION,GENERAL,AVIATION
 abbrev pub head_made : ℕ × (AccountKind × (ℕ × (Status × (Bool × (Bool × (ℤ × (ℕ × ℕ))))))) → AccountHead
 head_made (number, (kind, (holder, (status, (outside, (waiver, (correction, (general, aviation)))))))) = record {
   number = number;

@@ -150,7 +150,7 @@ pub record IsList (t : Tag) (xs : List (Said t)) : Type 0 where
   pub ordered : IsOrdered (key t) xs
   pub few : AreAtMost (most t) (length xs)
 
--- a surrender for one of so many periods
+-- a surrender is for one of so many periods; a deletion is for none
 abbrev pub FateIsOf : ℕ → Fate → Type 0
 FateIsOf count (fate.Surrendered period) = period ≤ count
 FateIsOf count fate.Deleted = Unit {0}

@@ -89,7 +89,8 @@ pub fn one_word_of_each_value()
     ensures versions { (f : List ℕ) (v : Version) → (version_of f ≡ Ok v) ↔ (f ≡ version_word v) }
 {}
 
-/// The word of an act in the texts is that of its value. (All other words are those of the values by definition.)
+/// The word of an act in the texts is its name in reg_base. (Kinds, account kinds, statuses, rights and what became of
+/// allowances have theirs in reg_base by definition.)
 pub fn words_are_those_of_values()
     ensures acts { (a : Act) → act_word (act_name a) ≡ name_of_act a }
 {}
@@ -105,7 +106,8 @@ pub fn one_row_of_an_instruction()
     ensures { OneRowOfAnInstruction }
 {}
 
-/// Rows are read as a day exactly if they are the spelling of that day and the day is within the limits.
+/// Rows are read as a day exactly if they are the spelling of that day in a version that can say it, and the day is
+/// within the limits.
 pub fn reads_what_is_spelled()
     ensures { (rows : List TextRow) (v : DayValue) → (day_of_rows rows ≡ Ok v) ↔ IsReading rows v }
 {}
@@ -124,9 +126,8 @@ pub fn names_the_first_faulty_row()
         → c ≡ cause.End }
 {}
 
-/// If the rows of a text have this fault at one of them, the rows before it make a draft, and the cause is the first of
-/// the table of causes that applies to that draft and that row. After any draft, a row to which no cause applies is
-/// taken.
+/// If a fault names one of the rows of a text, the rows before it make a draft, and the cause is the first of the table
+/// of causes that applies to that draft and that row. After any draft, a row to which no cause applies is taken.
 pub fn names_the_first_cause()
     ensures of_text { (rows : List TextRow) (row : ℕ) (c : Cause) → day_of_rows rows ≡ Err (row, c) → row ≤ length rows
         → IsCauseOf rows row c }
@@ -143,7 +144,8 @@ pub fn tells_other_texts_from_limits()
     ensures dates { TellsFromLimit date_of cause.Date IsDateText }
 {}
 
-/// The rows of a part of a text that was read on its own, behind those before it.
+/// If a part of a text was read on its own behind the heading, and may stand behind the rows before it, then all these
+/// rows say what the rows before it and the part say, joined.
 pub fn parts_join()
     ensures { PartsJoin }
 {}

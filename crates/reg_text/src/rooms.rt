@@ -29,8 +29,9 @@ const SAMPLED_ACCOUNTS: usize = 64;
 // A row of a log has no more bytes, mostly.
 const BYTES_OF_LOG_ROW: usize = 128;
 
-/// So many bytes, or as many as whole large pages have, if these are at most a seventh more. The system gives such a
-/// block in large pages, which takes a third of the time.
+/// How many bytes of memory to ask for where so many are needed: as many as fill whole large pages, together with what
+/// the allocator keeps for itself, if these are at most a seventh more; otherwise just those that are needed. The
+/// system gives such a block in large pages, which takes a third of the time.
 pub fn in_large_pages(bytes: usize) -> usize {
     let pages = (bytes / LARGE_PAGE).saturating_add(1);
     let whole = pages.saturating_mul(LARGE_PAGE).saturating_sub(KEPT);
@@ -70,7 +71,7 @@ pub(crate) struct Extent {
     pub accounts: usize,
     /// How many instructions.
     pub instructions: usize,
-    /// How many bytes the rows of the accounts have, if there are lists among them.
+    /// How many bytes the rows of the accounts have, if there seem to be lists among them; else 0.
     pub listed: usize,
 }
 
@@ -87,8 +88,8 @@ pub(crate) fn extent_of(part: &[u8]) -> Extent {
     }
 }
 
-// How many bytes have lists among them, if the rows of so many accounts have so many: a row of an account alone is
-// shorter than this.
+// How many bytes the rows of so many accounts have, if there seem to be lists among them; else 0. The row of an account
+// without lists is mostly shorter than 80 bytes.
 fn listed_bytes(bytes: usize, accounts: usize) -> usize {
     if bytes / 80 > accounts { bytes } else { 0 }
 }

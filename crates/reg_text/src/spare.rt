@@ -6,14 +6,14 @@ use std::mem;
 use std::sync::Mutex;
 
 /// Texts that are no longer needed. Each stands behind a lock of its own, which is only tried: no thread waits for
-/// another one. Nothing is promised of what a thread gets, so that a text may also be made in memory of its own.
+/// another one. Nothing is promised of what a thread gets: it may be a text without memory.
 #[derive(Drop)]
 pub(crate) struct Spare {
     texts: Vec<Mutex<Vec<u8>>>,
 }
 
 impl Spare {
-    /// These texts. Where memory for the locks is refused, they are given back.
+    /// These texts. Where memory for the locks is refused, the texts are dropped.
     pub(crate) fn of(alloc: Global, texts: Vec<Vec<u8>>) -> Self {
         let mut locked = with_room(alloc, texts.len());
         for text in texts {
@@ -22,7 +22,7 @@ impl Spare {
         Spare { texts: locked }
     }
 
-    /// A text that nobody has taken. If there is none, an empty one that has no memory.
+    /// A text that nobody has taken, with its old bytes. If there is none, an empty one that has no memory.
     pub(crate) fn take(&self, alloc: Global) -> Vec<u8> {
         for slot in &self.texts {
             if let Some(mut text) = slot.try_lock() {

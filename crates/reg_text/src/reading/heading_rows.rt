@@ -52,7 +52,7 @@ pub(crate) fn read_day_row(row: &ByteRecord) -> Result<(Day, u64), Cause>
     Ok((day, next))
 }
 
-/// `period,YEAR,YEAR`: the first year, and the last, which is not before it.
+/// `period,FIRST,LAST`: the first year, and the last, which is not before it.
 pub(crate) fn read_period_row(row: &ByteRecord) -> Result<(Year, Year), Cause>
     ensures { result ≡ row_read widest tag.Period (fields_of row.now) }
 {

@@ -27,7 +27,7 @@ fn read_do_row(row: &ByteRecord) -> Result<Instruction, Cause>
 }
 
 /// The instruction that one `do` row says, as it stands in a day text, with its line end or without. The fields are the
-/// same in both versions of the format. Whether the accounts are there, a day decides.
+/// same in both versions of the format. The accounts need not exist: no book is looked at.
 ///
 /// # Errors
 /// `Row` if this is no such row, with the first cause that applies to it: row 1 with `Tag` if it has another tag, row 1

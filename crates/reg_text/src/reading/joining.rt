@@ -54,8 +54,8 @@ fn instructions_may_follow(heading: &Heading, before: &Body, part: &Body) -> boo
         && has_number(heading.day, count + more - 1)
 }
 
-// What was read before, and behind it the accounts of a part and what comes behind them. Of all parts together, so many
-// accounts are awaited.
+// What was read before, and behind it the accounts of a part and what comes behind them. Room is made for
+// `awaited` accounts, which all parts have together.
 fn join_accounts(
     heading: &Heading,
     before: Body,

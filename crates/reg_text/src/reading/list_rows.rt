@@ -1,4 +1,4 @@
-//! The rows of the heading's lists: who surrenders what, administrators, working days.
+//! The rows of the heading's lists: what may be surrendered from which accounts, administrators, working days.
 
 ghost use Rattle.std.specs.Prelude.{◌≡◌};
 ghost use Rattle.csv.specs.Records.{fields_of};
@@ -37,8 +37,8 @@ pub(crate) fn pair_index(pair: (AccountKind, AllowanceKind)) -> u8
     }
 }
 
-/// `surrender,ACCOUNTKIND,KIND`: allowances of this kind may be surrendered from accounts of that kind. Any pair
-/// except four is a wrong word at the account kind.
+/// `surrender,ACCOUNTKIND,KIND`: allowances of this kind may be surrendered from accounts of that kind. If both are
+/// words of kinds, but not one of the four pairs, the cause is `Word` too.
 pub(crate) fn read_surrender_row(row: &ByteRecord) -> Result<(AccountKind, AllowanceKind), Cause>
     ensures { result ≡ row_read widest tag.Surrender (fields_of row.now) }
 {

@@ -19,8 +19,9 @@ use reg_cuts::cut_near;
 use std::alloc::{AllocError, Global};
 use std::thread::Threads;
 
-/// Where the first row begins in a part of a text with which a piece may begin: the row of an account, or of an
-/// instruction if no account follows. Nothing is promised of the place: what can't be read by pieces is put together.
+/// The index in a part of a text at which a piece may begin: that of the first row of an account which begins behind a
+/// line feed of the part, or of an instruction if no account follows. `None` if there is neither. Nothing is promised
+/// of the index: what can't be read by pieces is put together.
 pub fn find_row(part: &[u8]) -> Option<usize> {
     let (before, behind) = cut_near(part, &STARTS, 0);
     if behind.is_empty() {

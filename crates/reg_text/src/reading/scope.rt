@@ -7,7 +7,7 @@ use crate::fields::words::Word;
 pub enum Version {
     /// The first: a text has one period, which is the current one.
     One,
-    /// The second: a text has one period or several.
+    /// The second: a text has one period to eight, and names the current one.
     Two,
 }
 

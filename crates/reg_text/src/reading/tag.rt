@@ -51,9 +51,10 @@ pub enum Tag {
 }
 
 // The table of tags: of each its stage among the rows of a text, the lowest and the highest stage of the row before it
-// in the first version and then in the second (101 and 0 if there is no such row), and its word. The macro that is
-// named first makes something of it. Stages leave gaps for other tags. Those of an account's block are 80 to 89, and
-// another block may begin behind each of its rows.
+// in the first version and then in the second (101 and 0 if the version does not have the tag), and its word. `tags!`
+// hands all tags to the macro that is named first, with what is named second: `tags!(words self)` is the word of
+// `self`. Stages leave gaps for other tags. Those of an account's block are 80 to 89, and another block may begin
+// behind each of its rows.
 macro_rules! tags {
     ($make:ident $($of:tt)?) => {
         $make! { [$($of)?]
@@ -215,7 +216,7 @@ fn likely_tag(field: &[u8]) -> Tag {
     }
 }
 
-// The tag that a field names. Few words begin with one letter, so most fields are compared with one word.
+// The tag that a field names. At most two words have the same first letter, so most fields are compared with one word.
 #[inline(always)]
 fn read_name(field: &[u8]) -> Result<Tag, Cause>
     ensures { result ≡ named cause.Tag tag_word all_tags field.now }

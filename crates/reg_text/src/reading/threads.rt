@@ -1,4 +1,5 @@
-//! Reading a day text by several threads.
+//! Reading a day text by several threads. An answer `None` says that something is in the way: then one thread reads the
+//! whole text row by row.
 
 ghost use Rattle.std.specs.Prelude.{◌≡◌, ◌≤◌, ◌++◌, MatchResult, Some, IfOk, IfSome, vec_len, length};
 ghost use Rattle.reg_cuts.specs.Parts.{text_of_parts};

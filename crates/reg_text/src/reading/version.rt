@@ -28,8 +28,9 @@ fn read_version_row(row: &ByteRecord) -> Result<Version, Cause>
     read_format_row(row)
 }
 
-/// The version of the format in which a day text is spelled, by its first row. `None` if that is no row of a version,
-/// so that the text is no day text. It is never part of a caller, whose frame would have room for its reader too.
+/// The version of the format in which a day text is spelled, by its first row. `None` if there is no row, or the first
+/// one names no version, so that the text is no day text. The other rows are not looked at: a text with a version may
+/// still have a fault. This is never inlined, since the frame of a caller would then have room for its reader too.
 ///
 /// # Errors
 /// `NoMemory` if memory ran out.

@@ -1,4 +1,4 @@
-//! Writing the text of the compliance figures of all accounts.
+//! Writing the text of the determined compliance figures of all accounts.
 
 ghost use Rattle.std.specs.Prelude.{◌≡◌, ◌++◌, map, IfOk, OnOk};
 ghost use Rattle.std.specs.List.{flat_map};
@@ -81,11 +81,11 @@ fn put_figures(text: &mut Text, lists: &[Vec<Account>]) -> Result<(), NoMemory>
     put_end(text)
 }
 
-/// The compliance figures of a book: for each account, by rising number, a row for each year with a determined figure,
-/// by rising year, and the row `end`. An account without a determined figure has no row.
+/// The determined compliance figures of a book: for each account, by rising number, a row for each year with a
+/// determined figure, by rising year, and the row `end`. An account without a determined figure has no row.
 ///
-/// A figure is in tonnes of carbon dioxide equivalent, and negative if allowances are missing. It stands here as it was
-/// last determined, whatever the account's kind and status are now.
+/// A figure is -4 x 10^15 to 4 x 10^15 tonnes of carbon dioxide equivalent, and negative if allowances are missing. It
+/// stands here as it was last determined, whatever the account's kind and status are now.
 ///
 /// # Errors
 /// `NoMemory` if memory ran out.

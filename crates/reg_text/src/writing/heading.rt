@@ -173,8 +173,10 @@ fn put_heading(
     put_list(text, row, rules.calendar().days())
 }
 
-/// The text of a day up to its instructions: its heading, and the accounts of its book. With the rows of instructions
-/// and the row `end` behind it, it is a day text, by the law `each_next_text_is_read_on`.
+/// The text of the settlement day `day` up to its instructions: its heading, and the accounts of its book. If version
+/// and rules are those of a day text, and the book is the one that its day leaves, then this is a day text with the
+/// rows of instructions and the row `end` behind it, by the law `each_next_text_is_read_on`. Nothing here tests this:
+/// if the rules have several periods, version 1 makes no day text.
 ///
 /// # Errors
 /// `NoMemory` if memory ran out.

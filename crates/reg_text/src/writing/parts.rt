@@ -103,7 +103,7 @@ fn add_lists<R: Threads + Sync>(
     Ok(totals)
 }
 
-// The same of a book. Of a single list, threads spell runs of its accounts.
+// The same of a book. If it has a single list, threads spell runs of its accounts.
 fn add_blocks<R: Threads + Sync>(
     rt: &R,
     alloc: Global,
@@ -124,7 +124,7 @@ fn add_blocks<R: Threads + Sync>(
     add_lists(rt, alloc, pieces, spare, lists, workers)
 }
 
-// So many log rows and accounts are spelled by one thread: to start others would take longer.
+// Fewer log rows and fewer accounts than this are spelled by one thread: to start others would take longer.
 const FEW: usize = 1_024;
 
 // Whether there is little to spell: few replies, and few accounts in all lists.
@@ -136,15 +136,16 @@ fn is_short(lists: &[Vec<Account>], replies: &[Reply]) -> bool {
     replies.len() < FEW && accounts < FEW
 }
 
-/// The report of a batch with these replies in pieces, spelled by so many threads. Their bytes one after another are
-/// the text that [`write_report_over`](crate::write_report_over) makes; they are never put together. Each thread spells
-/// a run of the lists in which the accounts lie, or of the accounts of a single list, and adds these accounts up for
-/// the totals. A short report is one piece.
+/// The report of a batch with these replies in pieces, spelled by at most `workers` threads, which must be at least 1.
+/// `parts` is the book after the day. The bytes of the pieces, one after another, are the text that
+/// [`write_report_over`](crate::write_report_over) makes; they are never put together. Threads spell runs of the log,
+/// and then runs of the lists in which the accounts lie, or of the accounts of a single list, and add these accounts up
+/// for the totals. A short report is one piece.
 ///
 /// `spare` are texts that are no longer needed, as the pieces of an input: the blocks of accounts take their memory.
 ///
 /// # Errors
-/// `NoMemory` if memory ran out. That a thread can't be started is no error.
+/// `NoMemory` if memory ran out. It is no error if a thread can't be started.
 pub fn write_report_pieces<R: Threads + Sync>(
     rt: &R,
     alloc: Global,

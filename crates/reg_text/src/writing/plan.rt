@@ -74,7 +74,7 @@ fn put_places(text: &mut Text, row: &mut RowText, plan: &Plan) -> Result<(), NoM
 
 /// The text of a plan: for each place its level and the arrows that lead to it, and the row `end`.
 ///
-/// The time is linear in the text, except for one look-up a place.
+/// The time is linear in the text.
 ///
 /// # Errors
 /// `NoMemory` if memory ran out.

@@ -1,6 +1,6 @@
 //! The text of a row, written from its last byte to its first into one array that serves for all rows, and then
 //! appended to the whole text in one piece. No field written here needs quotes, so these are the same bytes that the
-//! writer of `csv` would give. That writer would copy each field once more and look at each byte.
+//! writer of `csv` would give. It would copy each field once more and look at each byte.
 
 ghost use Rattle.std.specs.Prelude.{◌≡◌, ◌+◌, ◌*◌, ◌≤◌, ◌<◌, ◌∷◌, [], ◌++◌, map, length, pos, unsigned_abs, OnOk};
 ghost use Rattle.reg_text.specs.Numbers.{number};

@@ -146,8 +146,8 @@ fn make_statement(
 /// The statement of an account over a day: what it held before, the log rows in whose footprint it is, what it holds
 /// after, and the row `end`. `book` is the book before the day, and `rows` are the day's log.
 ///
-/// What it holds after is what the last of these rows says that says what the account then holds; if
-/// there is none, it is what the account held before.
+/// Holdings are in allowances. What the account holds after is told by the last of these rows that tells its holdings;
+/// if none does, it is what the account held before.
 ///
 /// # Errors
 /// `UnknownAccount` if the account is not in the book. Otherwise `NoMemory` if memory ran out.

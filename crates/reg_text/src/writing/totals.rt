@@ -10,7 +10,7 @@ use reg_book::{Book, Parts};
 use std::alloc::Global;
 
 /// The totals of a book: how many allowances of each kind all accounts together hold, have surrendered and have
-/// deleted, and the row `end`.
+/// deleted, and the row `end`. Surrenders and deletions that were reversed do not count.
 ///
 /// # Errors
 /// `NoMemory` if memory ran out.
