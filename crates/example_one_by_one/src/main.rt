@@ -19,7 +19,8 @@ use std::process::ExitCode;
 #[derive(Drop)]
 struct Unanswered;
 
-/// Applies the instructions one at a time, and answers their log rows: those that settling the whole batch gives.
+/// Applies the instructions one at a time, and answers their log rows: those that settling the whole batch gives. The
+/// batch must begin with the book's next record number.
 ///
 /// # Errors
 /// [`Unanswered`] if memory ran out.

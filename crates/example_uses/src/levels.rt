@@ -8,7 +8,7 @@ use reg_levels::Levels;
 use reg_tasks::{Context, Naming};
 use std::alloc::Global;
 
-/// Settles a day level by level. `None` if memory ran out, or, if no day is named, if a value is not of this day.
+/// Settles a day level by level, on the calling thread. `None` if memory ran out.
 pub fn settle_by_levels<N: Naming>(alloc: Global, context: &Context<N>) -> Option<Settled>
     ensures { IfSome result (λ s. IfSome N.day (λ day. s ≡ settled_day day)) }
 {

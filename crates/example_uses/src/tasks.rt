@@ -12,8 +12,8 @@ ghost use Rattle.reg_tasks.specs.Places.{IsPlaceOf};
 use reg_tasks::{Context, Naming, Outcome, Parcel, Task};
 use std::alloc::Global;
 
-/// Runs the instruction at a place on these values of accounts, if they are those that it needs. If a day is named,
-/// its row is the day's. `None` if they are others, or memory ran out.
+/// Runs the instruction at a place, counted from 1, on these values of accounts, if they are those that it needs.
+/// If a day is named, its row is the day's. `None` if they are others, or memory ran out.
 pub fn run_on<N: Naming>(
     alloc: Global,
     context: &Context<N>,

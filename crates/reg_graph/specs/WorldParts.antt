@@ -67,7 +67,8 @@ first_head plan (p ∷ ps) = head_of plan p.after p.value.number
 abbrev pub FirstIsSent : DayValue → List ParcelValue → Type 0
 FirstIsSent day parcels = (p : ParcelValue) (ps : List ParcelValue) → parcels ≡ p ∷ ps → IsPlaceOf day.batch p.after
 
--- if it goes to a dock that waits, fewer parcels came there than the instruction of the dock touches accounts
+-- if the first of these parcels goes to a dock that waits, fewer parcels came there than the instruction of the dock
+-- touches accounts
 abbrev pub FirstHasRoom : DayValue → PlanValue → WorldValue → List ParcelValue → Type 0
 FirstHasRoom day plan world parcels = (place : ℕ) (came : List ParcelValue)
     → first_head plan parcels ≡ Some place → arrived world place ≡ Some came

@@ -1,5 +1,5 @@
-//! The workers' world: lists of tasks, docks in which parcels wait for each other, and the events that move them. All
-//! of `reg_tasks` is passed on.
+//! The workers' world: lists of tasks, docks in which parcels wait for each other, and the events that move them. The
+//! events and laws of `reg_schedules` are passed on, and of `reg_tasks` what callers of a world need.
 //!
 //! A use of it, proved in `example_uses/src/graph.rt`:
 //!

@@ -128,8 +128,8 @@ impl<N: Naming> Parts<N> {
         }
     }
 
-    /// The parts at the start: the opening values lie in the docks of the first instructions, and the tasks that are
-    /// complete from the first are dealt to the workers, by rising place, in turn from worker 0.
+    /// The parts at the start: the opening values lie in the docks of the instructions that need them, and the tasks
+    /// that are complete from the first are dealt to the workers' lists, by rising place, in turn from worker 0.
     ///
     /// # Errors
     /// `NoMemory` if memory ran out.

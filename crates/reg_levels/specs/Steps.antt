@@ -32,14 +32,14 @@ module _ {N : Type 0} {b : Ghosts N} where
   TakesLevel most old new result =
       MatchResult result (λ tasks. HasTaken most old new tasks.items) (LosesTasks old new)
 
-  -- what all tasks left that were taken is laid, and none was taken
+  -- what all tasks left that were taken is laid, and no more tasks were taken
   pub record HasLaid (old new : Levels N b) : Type 0 where
     pub context : new.slots.context.now ≡ old.slots.context.now
     pub order : new.order ≡ old.order
     pub taken : new.taken ≡ old.taken
     pub laid : new.laid ≡ new.taken
 
-  -- a value of another context came, for no day is named, and none was taken
+  -- a value of another context came, which occurs only if no day is named, and no more tasks were taken
   pub record MeetsForeign (old new : Levels N b) (why : Lack) : Type 0 where
     pub context : new.slots.context.now ≡ old.slots.context.now
     pub order : new.order ≡ old.order

@@ -17,8 +17,8 @@ use reg_plan::laws::{
 use reg_tasks::{Context, Done, Lack, Naming, Outcome, Slots, Task};
 use std::alloc::Global;
 
-/// The instructions of a day, level by level. The tasks of a level are taken together. When they were run, their
-/// outcomes are laid, and then the tasks of the next level are complete.
+/// The instructions of a day, level by level. The tasks of a level are taken together, or some at a time. When they
+/// were run, their outcomes are laid, and once those of the whole level are, the tasks of the next level are complete.
 #[derive(Drop)]
 pub struct Levels<'c, 'a, N: Naming> {
     slots: Slots<'c, 'a, N>,
@@ -96,8 +96,8 @@ impl<'c, 'a, N: Naming> Levels<'c, 'a, N> {
         Ok(task)
     }
 
-    /// Takes the tasks of the next level, by rising place, or the first `most` of them that are left. What was taken
-    /// before was laid.
+    /// Takes the tasks of the next level, by rising place, or the first `most` of them that are left. `most` must be at
+    /// least 1, tasks must be left, and the outcomes of all that were taken before must be laid.
     ///
     /// # Errors
     /// `Memory` if memory ran out. If no day is named, `Foreign` if a value of another context was laid. The tasks that
@@ -139,7 +139,8 @@ impl<'c, 'a, N: Naming> Levels<'c, 'a, N> {
         Ok(())
     }
 
-    /// Lays what the tasks of a level left, in the order in which the tasks were taken. Takes no memory.
+    /// Lays what the tasks left that were taken last: the outcomes of all of them, in the order in which the tasks were
+    /// taken. Takes no memory.
     ///
     /// # Errors
     /// `Foreign` if a value of another context comes. If a day is named, this does not occur.
@@ -154,7 +155,7 @@ impl<'c, 'a, N: Naming> Levels<'c, 'a, N> {
         Ok(())
     }
 
-    /// The settled day, after the outcomes of the last level were laid.
+    /// The settled day. The outcomes of all levels must be laid.
     ///
     /// # Errors
     /// `Memory` if memory ran out. If no day is named, `Foreign` if a value of another context was laid.

@@ -13,7 +13,7 @@ use reg_plan::laws::{levels_rise_along_arrows, no_fault_is_a_legal_order};
 use reg_tasks::{Context, Naming};
 use std::alloc::Global;
 
-// The level of a place, counted from 1, or 0 if there is no such place.
+// The level of a place, which is counted from 1. Behind the last place it is 0.
 fn level_of(levels: &[u32], place: u32) -> u32
     ensures { result ≡ level_at levels.now place }
 {
@@ -46,7 +46,7 @@ fn sort_by_level(levels: &[u32], places: &mut Vec<u32>) -> Result<(), NoMemory>
     Ok(())
 }
 
-/// The places by rising level, and within a level by rising place. That is a legal order.
+/// The places by rising level, and within a level by rising place: this is a legal order.
 pub(crate) fn order_by_level<N: Naming>(
     alloc: Global,
     context: &Context<N>,
@@ -62,7 +62,8 @@ pub(crate) fn order_by_level<N: Naming>(
     Ok(order)
 }
 
-/// How far the places of an order from this index on, counted from 0, have its level. At most so many are looked at.
+/// The index behind the places of an order that stand from this index on and have the level of the place there, or
+/// behind the first `most` of them. Indexes are counted from 0.
 pub(crate) fn level_end(plan: &Plan, order: &[u32], from: usize, most: usize) -> usize
     requires there { from < length order.now }
     requires most { 1 ≤ most }

@@ -27,7 +27,7 @@ is_name x y = (x.0 == y.0) && (x.1 == y.1)
 abbrev pub name_of : ParcelValue → ℕ × ℕ
 name_of p = (p.value.number, p.after)
 
--- these are the names of the values that a place needs of these accounts, by the arrows that lead there
+-- the names of the values that a place needs of these accounts, by the arrows that lead there
 abbrev pub names_needed : List Arrow → List ℕ → List (ℕ × ℕ)
 names_needed arrows [] = []
 names_needed arrows (a ∷ more) = (a, tail_in arrows a) ∷ names_needed arrows more

@@ -9,7 +9,7 @@ use Rattle.reg_plan.specs.Laws.{IsAtPosition}
 use Rattle.reg_book.specs.Day.{DayValue}
 use Rattle.reg_schedules.specs.Pool.{directory, meaning_of, IsSettledDay}
 
--- these are the arrows, openings and levels of the day's instructions
+-- this is the plan of the day's instructions
 abbrev pub IsPlanOf : DayValue → PlanValue → Type 0
 IsPlanOf day plan = IsPlan (directory day) day.batch.instructions plan
 

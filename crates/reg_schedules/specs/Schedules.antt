@@ -53,7 +53,8 @@ pub record AreLastValues (day : DayValue) (accounts : State) : Type 0 where
   pub touched : (a : ℕ) → is_among (numbers accounts) a ≡ is_touched (directory day) day.batch.instructions a
   pub values : AllByRecursion (λ v. value_at day v.number (length day.batch.instructions) ≡ Some v) accounts
 
--- all rows are there, in the order of the batch, and the accounts are those that some instruction touches, in any order
+-- all rows are there, in the order of the batch, and the accounts are the touched ones as the last instruction left
+-- them, in any order
 pub record IsWorldSettled (day : DayValue) (world : WorldValue) : Type 0 where
   pub rows : world.rows ≡ map Some (log_of day)
   pub accounts : AreLastValues day world.closing
@@ -68,7 +69,7 @@ abbrev pub EverySchedule : Type 0
 EverySchedule = (day : DayValue) (plan : PlanValue) (workers : ℕ) (events : List Event) (world : WorldValue)
     → IsPlanOf day plan → 1 ≤ workers → world_after day plan workers events ≡ Some world → ScheduleDecides day world
 
--- how often a name stands among the parcels of the docks, the lists and the hands
+-- how often a name stands among these parcels; and among those of the docks, the lists and the hands
 abbrev pub times_among : ℕ × ℕ → List ParcelValue → ℕ
 times_among name parcels = total (λ p. one_if (is_name (name_of p) name)) parcels
 
@@ -155,8 +156,8 @@ pub record FindsDock (day : DayValue) (plan : PlanValue) (world : WorldValue) (p
   pub waits : arrived world place ≡ Some came
   pub is_awaited : is_not_awaited day plan place came p ≡ false
 
--- a worker can run exactly if a task is in its hand, deliver exactly if a parcel is, and push exactly if a task that
--- became complete is; and the parcel that it would deliver finds its dock
+-- a worker can run exactly if a task to run is in its hand, deliver exactly if a parcel is and no task that became
+-- complete, and push exactly if such a task is; and the parcel that it would deliver finds its dock
 pub record HandsGoOn (day : DayValue) (plan : PlanValue) (world : WorldValue) : Type 0 where
   pub run : (worker : ℕ) → is_ok (after_event day plan world (Run worker)) ≡ has_hand world worker is_to_run
   pub deliver : (worker : ℕ) → is_ok (after_event day plan world (Deliver worker)) ≡ has_hand world worker is_to_deliver

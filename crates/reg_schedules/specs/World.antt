@@ -66,7 +66,7 @@ known_of [] = []
 known_of (None ∷ more) = known_of more
 known_of (Some x ∷ more) = x ∷ known_of more
 
--- the opening values that lie in the dock of a place: those of the accounts of its footprint that no arrow leads to
+-- the opening values that a place needs: those of the accounts of its footprint at which no arrow leads there
 abbrev pub opened_at : DayValue → PlanValue → ℕ → List ParcelValue
 opened_at day plan place =
     known_of (map (opening_of day) (filter (λ a. tail_of plan place a == 0) (footprint_at day place)))
@@ -90,10 +90,11 @@ ready_from day plan place zero = []
 ready_from day plan place (suc more) =
     before_some (complete day plan place (opened_at day plan place)) (ready_from day plan (suc place) more)
 
--- each task in turn goes to the end of the list of the next worker, the last is followed by worker 0
+-- a task goes to the end of the list of a worker
 abbrev pub pushed_to : ℕ → TaskValue → List (List TaskValue) → List (List TaskValue)
 pushed_to worker task lists = slice_set lists worker (option_map_or (λ l. l) (slice_get lists worker) [] ++ task ∷ [])
 
+-- each task in turn goes to the end of the list of the next worker, from this one on; after the last comes worker 0
 abbrev pub dealt : ℕ → List TaskValue → List (List TaskValue) → List (List TaskValue)
 dealt worker [] lists = lists
 dealt worker (task ∷ tasks) lists =
@@ -159,7 +160,8 @@ delivered_to day plan worker world p ps place None = Err fault.NothingToDeliver
 delivered_to day plan worker world p ps place (Some came) = let now = received day plan place came p in
     Ok (after_delivery worker world ps place now.0 now.1)
 
--- (there is always an arrow that leads on from a parcel in hand, and its head still waits)
+-- the first parcel in hand came to the dock of the place to which its arrow leads. (After every schedule there is such
+-- an arrow, and the dock waits: `FindsDock`)
 abbrev pub delivered_by : DayValue → PlanValue → ℕ → WorldValue → HandValue → Result WorldValue EventFault
 delivered_by day plan worker world (Carries None (p ∷ ps)) =
     option_map_or (λ place. delivered_to day plan worker world p ps place (arrived world place))
@@ -198,11 +200,11 @@ after_event day plan world (Push worker) = with_hand world worker (pushed_by wor
 
 -- ---- schedules
 
--- the world after these events, one after another, if each is possible in its turn
 abbrev pub after_result : (WorldValue → Option WorldValue) → Result WorldValue EventFault → Option WorldValue
 after_result next (Ok world) = next world
 after_result next (Err why) = None
 
+-- the world after these events, one after another, if each is possible in its turn
 abbrev pub after_events : DayValue → PlanValue → WorldValue → List Event → Option WorldValue
 after_events day plan world [] = Some world
 after_events day plan world (event ∷ events) =

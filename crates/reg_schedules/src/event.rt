@@ -1,8 +1,8 @@
-//! The steps of workers, of which the laws of schedules speak.
+//! The steps of workers in a world, of which the laws of schedules speak.
 
 use thiserror::Error;
 
-/// The most workers of a world. The fewest are 1.
+/// The most workers of a world, and of a settlement by `reg_work`: the limit of docs/RULES.md. The fewest are 1.
 pub const MOST_WORKERS: u32 = 8;
 
 /// A step of a worker. Workers are counted from 0.
@@ -29,13 +29,13 @@ pub enum Event {
     /// The worker runs the task in its hand. What no later instruction needs is closing; the other parcels stay in
     /// hand.
     ///
-    /// Faults: `NoSuchWorker`, `NothingToRun`. In a program also `NoMemory`.
+    /// Faults: `NoSuchWorker`, `NothingToRun`; in a world of `reg_graph`, which takes memory, last also `NoMemory`.
     Run {
         /// The worker.
         worker: u32,
     },
-    /// The worker puts the first parcel in its hand into its dock. If the dock is complete then, its task comes to the
-    /// hand.
+    /// The worker puts the first parcel in its hand into the dock of the instruction that needs it next. If that was
+    /// the last parcel that the dock awaited, the task comes to the hand.
     ///
     /// Faults: `NoSuchWorker`, `NothingToDeliver`.
     Deliver {
@@ -69,7 +69,7 @@ pub enum EventFault {
     /// The worker has no task to run in hand.
     #[error("the worker has no task to run")]
     NothingToRun,
-    /// The worker has no parcel in hand, or a task that became complete waits there to be pushed.
+    /// The worker has no parcel to deliver in hand, or a task that became complete waits there to be pushed first.
     #[error("the worker has no parcel to deliver")]
     NothingToDeliver,
     /// No task that became complete is in hand.

@@ -92,9 +92,9 @@ pub fn each_schedule_is_an_order()
 /// After every schedule each instruction is in exactly one place: in its dock, in a list, in a hand, or done. If no
 /// list and no hand has anything, all are done; otherwise some event is possible. No schedule has more events than
 /// three for each instruction and one for each arrow. Whatever a worker has in hand, it can go on with it: it can run a
-/// task, push one that became complete, and deliver a parcel, whose dock waits for it. No account is closing twice. The
-/// value that an instruction needs of an account lies in one dock, list or hand from when it is made until that
-/// instruction is done.
+/// task, or push one that became complete, or, if it has no such task, deliver a parcel, whose dock waits for it. No
+/// account is closing twice. The value that an instruction needs of an account lies in one dock, list or hand from when
+/// it is made until that instruction is done.
 pub fn nothing_lost()
     ensures { NothingLost }
 {

@@ -1,5 +1,6 @@
 //! What the orders and the workers' schedules of a day's instructions mean, as definitions, and what is true of all of
-//! them, as laws. There are no values here: a pool, docks, lists and hands are plain data.
+//! them, as laws. A pool, docks, lists and hands are plain data here. The only code is the names of the workers'
+//! events, of their faults, and of where an instruction is.
 //!
 //! A use of it, proved in `example_uses/src/schedules.rt`:
 //!

@@ -61,7 +61,7 @@ IsClosing name n = (day : DayValue) → name ≡ Some day → IsLastName day n
 abbrev pub AreClosingValues : Option DayValue → State → Type 0
 AreClosingValues name accounts = (day : DayValue) → name ≡ Some day → AreLastValues day accounts
 
--- the row of the instruction at place j, counted from 1, if this is its reply; none if it is no place
+-- the row of the instruction at a place, counted from 1, if this is its reply; none if it is no place
 abbrev pub row_replied : DayValue → ℕ → Reply → Option LogRow
 row_replied day zero reply = None
 row_replied day (suc k) reply =

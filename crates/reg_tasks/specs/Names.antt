@@ -44,7 +44,7 @@ IsReplyOfDay name place reply =
 abbrev pub has_names : List (ℕ × ℕ) → List (ℕ × ℕ) → Bool
 has_names names wanted = (length names == length wanted) && list_all (λ w. list_any (λ n. is_name n w) names) wanted
 
--- the name stands at this place, which is not before the first; or it stands at no such place
+-- the name stands at this index, which is not below the first; or it stands at no such index
 abbrev pub FindsFrom : List (ℕ × ℕ) → ℕ → ℕ × ℕ → Option ℕ → Type 0
 FindsFrom names first name found = MatchOption found
     ((m : ℕ) → first ≤ m → m < length names → is_name (slice_index_or names m name) name ≡ false)

@@ -54,7 +54,8 @@ abbrev pub laid_at : List (ℕ × ℕ) → Option (ℕ × ℕ) → ℕ → Optio
 laid_at [] before a = before
 laid_at (n ∷ names) before a = laid_at names (if n.0 == a then Some n else before) a
 
--- why an order is not run to its end: memory ran out, or a parcel of another context came, and then this holds
+-- why a task or a settled day was not made: memory ran out; or a parcel or a row is not the needed one, and then this
+-- holds
 abbrev pub LacksFor : Type 0 → Lack → Type 0
 LacksFor P Memory = Unit {0}
 LacksFor P Foreign = P
@@ -108,7 +109,8 @@ pub record IsAtEnd (day : DayValue) (places : List ℕ) (standing : ℕ → Opti
 abbrev pub AreReady : Option DayValue → DayValue → PlanValue → ℕ → (ℕ → Option (ℕ × ℕ)) → Type 0
 AreReady name day plan place standing = (d : DayValue) → name ≡ Some d → is_ready day plan place standing ≡ true
 
--- if a day is named, they have the parcels that it left, and the other slots are as they were
+-- if a day is named, the slots of the accounts that the instruction at this place touches have the parcels that it
+-- left, and the other slots are as they were
 abbrev pub IsLaidBack : Option DayValue → DayValue → ℕ → (ℕ → Option (ℕ × ℕ)) → (ℕ → Option (ℕ × ℕ)) → Type 0
 IsLaidBack name day place before after = (d : DayValue) → name ≡ Some d → (a : ℕ)
     → after a ≡ (if is_among (footprint_at day place) a then Some (a, place) else before a)

@@ -48,7 +48,7 @@ module _ {N : Type 0} {b : Ghosts N} where
     pub reply : kept.1.reply ≡ outcome.row.reply
     pub laid : AreLaid (names_of outcome.parcels.items) (stands old) (stands new)
 
-  -- nothing is laid, and the outcome comes back: one of its accounts has no slot, for no day is named
+  -- nothing is laid, and the outcome comes back: one of its accounts has no slot, which occurs only if no day is named
   pub record LaysNothing (outcome : Outcome N b) (old new : Slots N b) (given : Outcome N b) : Type 0 where
     pub context : new.context.now ≡ old.context.now
     pub there : have_slots (the_day old.context.now) (names_of outcome.parcels.items) ≡ false

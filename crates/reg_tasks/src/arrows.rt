@@ -79,7 +79,8 @@ impl<N: Naming> Context<'_, N> {
 
     /// The place of the first instruction that touches the account of a parcel, if one does. Places are counted from 1.
     ///
-    /// The time is logarithmic in the touched accounts, and does not depend on them for a parcel of this context.
+    /// The time is logarithmic in the touched accounts. It does not depend on them for a parcel of this context, except
+    /// one that [`Context::opening`] made.
     pub fn first_for(&self, parcel: &Parcel<N>) -> Option<u32>
         ensures { result ≡ first_at self.now.plan parcel.now.value.number }
     {

@@ -20,7 +20,7 @@ use reg_base::NoMemory;
 use reg_rules::{LogRow, log_row};
 use std::alloc::Global;
 
-/// Sorts what is known of instructions by place.
+/// Sorts what is kept of instructions by place.
 pub(crate) fn sort_done<N: Naming>(rows: &mut [Done<N>])
     ensures same { IsPermutation rows.old rows.new }
     ensures sorted { IsNonDecreasingBy (λ done. done.place) rows.new }

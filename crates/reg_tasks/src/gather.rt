@@ -219,7 +219,7 @@ fn place_of<N: Naming>(context: &Context<N>, row: &LogRow) -> Option<u32>
     u32::try_from(place).ok()
 }
 
-// The replies in rows, with the places of the rows.
+// The replies in rows, with the places of the rows. `NoMemory` also if a row has a record number of no place.
 fn with_places<N: Naming>(
     alloc: Global,
     context: &Context<N>,
@@ -259,8 +259,8 @@ fn last_parcels<N: Naming>(
 }
 
 impl<N: Naming> Context<'_, N> {
-    /// The settled day, from its log and the touched accounts after the last instruction, in any order. Takes no
-    /// memory.
+    /// The settled day, from its log in the order of the batch, and the touched accounts as the last instruction left
+    /// them, in any order. Takes no memory.
     pub fn settle_day(&self, log: Vec<LogRow>, mut accounts: Vec<Account>) -> Settled
         requires log { log.items ≡ log_of (the_day self.now) }
         requires accounts { AreLastValues (the_day self.now) accounts.items }
@@ -274,7 +274,7 @@ impl<N: Naming> Context<'_, N> {
         Settled::of(self.batch().base(), log, accounts)
     }
 
-    /// The settled day, from what is known of each instruction that was run and the last parcels, both in any order.
+    /// The settled day, from what is kept of each instruction that was run and the last parcels, both in any order.
     /// What they are is known by their types; that none is missing and none stands twice is tested.
     ///
     /// The time is linear in the replies and the parcels, sorting and look-ups apart.
@@ -301,7 +301,7 @@ impl<N: Naming> Context<'_, N> {
     }
 
     /// The settled day, from the row of each instruction and the parcel of each touched account after its last
-    /// instruction, both in any order.
+    /// instruction, both in any order. If a day is named, they must be those of this day.
     ///
     /// The time is linear in the rows and the parcels, sorting and look-ups apart.
     ///

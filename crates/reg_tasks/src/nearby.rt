@@ -2,8 +2,8 @@
 
 ghost use Rattle.std.specs.Prelude.{IsPermutation};
 
-// Exchanges the item at a position with the one at its own index, if that one does not belong there. Answers the
-// position that is looked at next.
+// Exchanges the item at an index with the one at its likely index, if that one does not belong there. Answers the index
+// that is looked at next. Indexes are counted from 0.
 fn bring_one<T, F: Fn(&T) -> usize>(items: &mut [T], index_of: &F, at: usize) -> usize
     requires { F.IsAlwaysCallable index_of.now }
     ensures { IsPermutation items.old items.new }

@@ -50,7 +50,8 @@ impl<N: Naming> Context<'_, N> {
 
     /// The opening value of the account that stands at this index of the footprint of a place, exactly if no arrow
     /// leads to the place at that account. The arrows are all that lead to the place: a caller that opens several
-    /// values of a place looks them up once. The place is counted from 1, the index from 0.
+    /// values of a place looks them up once. The place is counted from 1, the index from 0, and the footprint must have
+    /// the index.
     ///
     /// # Errors
     /// `NoMemory` if memory ran out.

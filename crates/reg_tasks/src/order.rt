@@ -105,14 +105,13 @@ fn run_legal<N: Naming>(alloc: Global, context: &Context<N>, order: &[u32]) -> R
 }
 
 /// Runs the batch in an order of its instructions, given by their places, counted from 1. If the order is legal, this
-/// gives the same settled day as executing the instructions one after another. Each account is copied once, before the
-/// first instruction that touches it.
+/// gives the same settled day as executing the instructions one after another. Each touched account is copied once,
+/// before the first instruction is run.
 ///
 /// The time is linear in the instructions, sorting and look-ups apart.
 ///
 /// # Errors
-/// `Order` with the first fault of the list if it is no legal order. `NoMemory` if memory ran out. If no day is named,
-/// also if a value of another context came.
+/// `Order` with the first fault of the list if it is no legal order. `NoMemory` if memory ran out.
 pub fn run_order<N: Naming>(
     alloc: Global,
     context: &Context<N>,

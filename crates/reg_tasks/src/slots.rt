@@ -41,7 +41,7 @@ impl<'c, 'a, N: Naming> Slots<'c, 'a, N> {
 
     /// The slots before the first instruction: the opening value stands in each.
     ///
-    /// The time is linear in the touched accounts, sorting and look-ups apart.
+    /// The time is linear in the touched accounts, look-ups apart.
     ///
     /// # Errors
     /// `NoMemory` if memory ran out.
@@ -55,7 +55,7 @@ impl<'c, 'a, N: Naming> Slots<'c, 'a, N> {
         Ok(Slots { context, slots })
     }
 
-    /// The day whose instructions these are.
+    /// The day whose touched accounts have these slots.
     pub fn context(&self) -> &'c Context<'a, N>
         ensures { result.now ≡ self.now.context.now }
     {
@@ -93,7 +93,8 @@ impl<'c, 'a, N: Naming> Slots<'c, 'a, N> {
     /// and its row in the log.
     ///
     /// # Errors
-    /// The outcome as it was, if one of its accounts has no slot. If a day is named, this does not occur.
+    /// The outcome as it was, if one of its accounts has no slot. Nothing is laid then. If a day is named, this does
+    /// not occur.
     pub fn lay_for_row(&mut self, outcome: Outcome<N>) -> Result<(Ran<N>, LogRow), Outcome<N>>
         ensures { LaysForRow outcome self.old self.new result }
     {
@@ -112,7 +113,8 @@ impl<'c, 'a, N: Naming> Slots<'c, 'a, N> {
     /// kept of the instruction itself.
     ///
     /// # Errors
-    /// The outcome as it was, if one of its accounts has no slot. If a day is named, this does not occur.
+    /// The outcome as it was, if one of its accounts has no slot. Nothing is laid then. If a day is named, this does
+    /// not occur.
     pub fn lay(&mut self, outcome: Outcome<N>) -> Result<(Ran<N>, Done<N>), Outcome<N>>
         ensures { LaysForReply outcome self.old self.new result }
     {
@@ -121,7 +123,8 @@ impl<'c, 'a, N: Naming> Slots<'c, 'a, N> {
         Ok((ran, done))
     }
 
-    /// The settled day, from its log and what stands in the slots.
+    /// The settled day, from its log in the order of the batch, and what stands in the slots. If a day is named, the
+    /// log must be its log.
     ///
     /// # Errors
     /// `Memory` if memory ran out. `Foreign` if what stands for some account is not what its last instruction left. If

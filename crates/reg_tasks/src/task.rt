@@ -170,7 +170,9 @@ impl<N: Naming> Task<N> {
     /// Runs the instruction on the task's own values. The parcels that come out are named by the task's place.
     ///
     /// # Errors
-    /// The task as it was, if memory ran out. If no day is named, also if the task is of another context.
+    /// The task as it was, if memory ran out. If no day is named, also if the task is of another context and does not
+    /// fit this one: its place is none of the batch, its accounts are not those that the instruction there touches, or
+    /// one of them has a surrender or deletion with the record number of the instruction or a higher one.
     pub fn run(self, alloc: Global, context: &Context<N>) -> Result<Outcome<N>, Task<N>>
         ensures place { IfOk result (λ o. o.place ≡ self.place) }
         ensures made { IfOk result

@@ -21,7 +21,7 @@ use std::alloc::Global;
 ///
 /// # Errors
 /// `Memory` if memory ran out. `Foreign` if a parcel that the instruction needs is not there. If no day is named, also
-/// if what it leaves has no slot.
+/// `Memory` if the task does not fit the context, and `Foreign` if what it leaves has no slot.
 pub fn run_at<N: Naming, G: Gate>(
     alloc: Global,
     slots: &mut Slots<'_, '_, N>,

@@ -19,7 +19,7 @@ module _ {N : Type 0} where
   times_in place shifts = total (λ s. times place (places_ran s.ran.items)) shifts
 
 module _ {N : Type 0} where
-  -- one shift a worker, in rising order, and each of the places 1 to n stands in them once, and no other number does
+  -- one shift a worker, in rising order, and each place from 1 to `count` stands in them once, and no other number does
   pub record AreShifts (workers : ℕ) (count : ℕ) (shifts : List (Shift N)) : Type 0 where
     pub workers_are : workers_of shifts ≡ first_numbers workers
     pub each_once : (place : ℕ) → times_in place shifts ≡ once count place

@@ -22,7 +22,7 @@ fn keep<T: Drop>(items: &mut Vec<T>, item: T) -> Result<(), NoMemory>
     Ok(())
 }
 
-/// Runs the instructions in the order of the batch, and answers the log.
+/// Runs the instructions in the order of the batch, and answers their runs and the log.
 ///
 /// # Errors
 /// `Memory` if memory ran out. Otherwise what [`run_at`] lacks.

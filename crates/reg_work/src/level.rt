@@ -155,8 +155,8 @@ fn run_parts<N: Naming + Send + Sync, R: Threads + Wait, G: Gate>(
 }
 
 /// Runs the tasks of a level, divided in their order among so many workers, or as many as there are tasks if these are
-/// fewer. Each of several workers has a thread of its own, in which it calls the gate before each run; a single worker
-/// is the calling thread. The outcomes are in the order of the tasks.
+/// fewer. Each of several workers has a thread of its own; a single worker is the calling thread. Each passes the gate
+/// before each run. The outcomes are in the order of the tasks.
 ///
 /// # Errors
 /// `Thread` if a thread could not be started. Otherwise `Memory` if memory ran out. If no day is named, also if a task

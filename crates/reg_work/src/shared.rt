@@ -25,7 +25,8 @@ pub(crate) trait SharedIds {
     ghost deques: { List DequeId };
 }
 
-/// Those that a caller picks from its own arguments.
+/// Those that a caller picks from its own arguments: the proof of its call says which they are, and what stands here
+/// does not count.
 impl SharedIds for Brand {
     ghost use Rattle.std.specs.Prelude.{[]};
 

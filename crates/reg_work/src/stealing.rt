@@ -67,7 +67,7 @@ fn make_workers<N: Naming, I: SharedIds>(
     Ok((rest, unstarted))
 }
 
-// Divides the table among the workers, lets them work, and counts up what they did.
+// Gives each worker a seat at the table, lets the workers work, and counts up what they did.
 fn run_workers<
     'c,
     N: Naming + Send + Sync,
@@ -189,11 +189,11 @@ fn settle_named<N: Naming + Send + Sync, R: Threads + Wait + Sync, G: Gate>(
 }
 
 /// Settles a batch by workers. Each of several workers has a deque of tasks. A worker takes the first task of its own
-/// deque. If there is none, it opens the next instructions of the day, and puts the tasks of those that wait for no
-/// other into its deque. If all are opened, it steals the first task of another worker's deque, in rising number. It
-/// claims the task's place, calls the gate, runs the task, hands on what the instruction left to the instructions that
-/// wait for it, puts each task that is complete with that into its own deque, and finishes the place. It leaves after
-/// it saw that all places are finished, or that the workers are to leave. The book is not changed.
+/// deque. If there is none, it opens the next places of the day, and puts the tasks of those that wait for no other
+/// into its deque. If all are opened, it tries the deques of the others in rising number, and steals the first task of
+/// one. It claims the task's place, passes the gate, runs the task, hands on what the instruction left to the
+/// instructions that wait for it, puts each task that is complete with that into its own deque, and finishes the place.
+/// It leaves after it saw that all places are finished, or that the workers are to leave. The book is not changed.
 ///
 /// The last of several workers is the calling thread, and each other one has a thread of its own. A single worker is
 /// the calling thread. Nobody waits for it, so it needs no deque, no dock and no claim: it runs the instructions in the

@@ -18,7 +18,7 @@ use reg_claim::{ClaimTable, Seat};
 use reg_tasks::{Done, Lack, LastParcel, Naming, Ran, Task};
 use std::alloc::Global;
 
-/// What all workers did: who ran what, the replies, and the values that no other instruction needs, worker by worker.
+/// What all workers did: who ran what, the replies, and the values that no later instruction needs, worker by worker.
 #[derive(Drop)]
 pub(crate) struct Work<N: Naming> {
     pub(crate) shifts: Vec<Shift<N>>,
@@ -98,7 +98,8 @@ pub(crate) fn join_parts<T: Drop>(alloc: Global, parts: Vec<Vec<T>>) -> Result<V
 /// Joins the seats of all workers and closes the table. Without a stop each place is in one shift, once.
 ///
 /// # Errors
-/// `Memory` if memory ran out. If the workers left early, what the first of them lacked that told them to.
+/// `Memory` if memory ran out. If the workers were told to leave, what was lacking for the one that told them to; if
+/// several did, for the one with the lowest number.
 pub(crate) fn count_up<N: Naming, I: SharedIds>(
     alloc: Global,
     table: ClaimTable,

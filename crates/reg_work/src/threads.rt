@@ -96,8 +96,7 @@ fn join_and_drop<N: Naming, I: SharedIds, R: Threads>(rt: &R, handles: Vec<Handl
     }
 }
 
-/// Runs the workers: each in a thread of its own, but for the last, which is the calling thread. All threads are
-/// joined.
+/// Runs the workers: each in a thread of its own, except the last, which is the calling thread. All threads are joined.
 ///
 /// # Errors
 /// `Thread` if a thread could not be started: then those that were started are told to leave. Otherwise `Memory` if

@@ -128,9 +128,9 @@ fn settle_named<N: Naming + Send + Sync, R: Threads + Wait, G: Gate>(
 
 /// Settles a batch by workers, level by level: the instructions of a level touch no account in common, so they run at
 /// the same time. They are divided among so many workers, or as many as there are instructions in the level if these
-/// are fewer, in parts whose sizes differ by at most one. Each of several workers has a thread of its own, in which it
-/// calls the gate before each run. A single worker, or that of a level of one instruction, is the calling thread. The
-/// book is not changed.
+/// are fewer, in parts whose sizes differ by at most one. Each of several workers has a thread of its own. A single
+/// worker, or that of a level of one instruction, is the calling thread. Each passes the gate before each run. The book
+/// is not changed.
 ///
 /// The settled day is that of `settle_plain`, for each number of workers.
 ///

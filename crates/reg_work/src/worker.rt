@@ -101,8 +101,8 @@ impl<N: Naming, I: SharedIds> Worker<Task<N>, N, I> {
         shared.table.stop(&mut self.seat);
     }
 
-    /// Opens the next places of the day that no worker has opened, by copies of the book's accounts: several workers
-    /// open in turn. Answers whether there may be more.
+    /// Opens the next places of the day that no worker has opened, at most `AT_ONCE`, by copies of the book's accounts.
+    /// Several workers may do so at once, each with other places. Answers `false` if all places were taken before.
     ///
     /// # Errors
     /// `Memory` if memory ran out. `Foreign` if a dock gives back an opening value.
@@ -203,7 +203,8 @@ impl<N: Naming, I: SharedIds> Worker<Task<N>, N, I> {
         self.owner.take_own()
     }
 
-    /// The first task of another worker's deque, in rising number.
+    /// The first task of another worker's deque. The deques are tried in rising number. `None` if each was empty, or if
+    /// somebody was quicker.
     pub(crate) fn steal(&mut self, shared: &Shared<'_, Task<N>, N, I>) -> Option<Task<N>>
         ensures rest { PassAlone self.old self.new }
         ensures some { IfSome result
@@ -276,10 +277,10 @@ impl<N: Naming, I: SharedIds> Worker<Task<N>, N, I> {
     }
 
     /// Hands on what an instruction left: to the dock of the instruction that waits for it, and each task that is
-    /// complete with it into the worker's own deque. What no other instruction needs is kept.
+    /// complete with it into the worker's own deque. What no later instruction needs is kept.
     ///
     /// # Errors
-    /// `Memory` if memory ran out. `Foreign` if a dock gives back a parcel that another instruction needs.
+    /// `Memory` if memory ran out. `Foreign` if a dock gives back a parcel that a later instruction needs.
     pub(crate) fn hand_on<R: Wait>(
         &mut self,
         rt: &R,
@@ -299,7 +300,7 @@ impl<N: Naming, I: SharedIds> Worker<Task<N>, N, I> {
     }
 
     // Hands on one parcel that an instruction left. Most parcels are awaited, so their docks are asked first; one that
-    // comes back is kept, if no other instruction needs it.
+    // comes back is kept, if no later instruction needs it.
     fn hand_on_one<R: Wait>(
         &mut self,
         rt: &R,

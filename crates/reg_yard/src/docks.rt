@@ -32,7 +32,7 @@ impl<'c, 'a, N: Naming> Docks<'c, 'a, N> {
     /// A dock for each instruction, to which nothing has come yet, and the tasks of those that touch no account, by
     /// rising place.
     ///
-    /// The time is linear in the instructions, look-ups apart.
+    /// The time is linear in the instructions.
     ///
     /// # Errors
     /// `NoMemory` if memory ran out.

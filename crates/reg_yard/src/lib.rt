@@ -13,7 +13,8 @@
 //! use std::sync::Wait;
 //!
 //! /// Delivers the value of an account to the instruction that needs it next, and runs that one if it was the last
-//! /// value that it awaited. `None` if it awaits more, if no instruction awaits the value, or if memory ran out.
+//! /// value that it awaited. `None` if it awaits more, if no instruction awaits the value, if memory ran out, or, if
+//! /// no day is named, if the task does not fit the context.
 //! pub fn deliver_and_run<N: Naming, R: Wait>(
 //!     wait: &R,
 //!     alloc: Global,

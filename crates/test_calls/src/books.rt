@@ -80,7 +80,7 @@ pub(crate) fn try_draft<W: Write>(
     try_call(alloc, day, &mut call, wanted, writer)
 }
 
-// `Directory::insert` of the account at an index of the book, counted from 0.
+// `Directory::insert` of an account of the book.
 #[derive(Drop)]
 struct Entering<'d> {
     directory: Directory,

@@ -241,7 +241,7 @@ pub(crate) fn try_run<W: Write>(alloc: Global, day: &DayInput, writer: &mut W) -
     try_call(alloc, day, &mut call, wanted, writer)
 }
 
-// `Context::gather`, which keeps what it is given: so each time it is made it takes the last of these.
+// `Context::gather`, which uses up what it is given: so each time the call is made it takes the last of these.
 #[derive(Drop)]
 struct Gathering<'c> {
     context: &'c Context<'c, Unnamed>,

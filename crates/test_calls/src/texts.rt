@@ -136,7 +136,8 @@ fn make_spare(alloc: Global) -> Result<Vec<Vec<u8>>, NoMemory> {
     Ok(spare)
 }
 
-// Spells the report of a day by so many threads, or by one if it is to be none, in the place of a text.
+// Spells the report of a day by so many threads, or by one if the number is 0, in the memory of a text that is no
+// longer needed.
 fn spell_pieces<R: Threads + Sync>(
     rt: &R,
     alloc: Global,

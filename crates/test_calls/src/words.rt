@@ -24,8 +24,8 @@ use std::thread::Threads;
 /// Tries the call of a name, with the number that stands behind it or 0, on a day text.
 ///
 /// # Errors
-/// `Stop::Input` if no call has this name, the text is no day text, or the call cannot be made on that day;
-/// `Stop::Short` and `Stop::Output` as they say.
+/// `Stop::Input` if no call has this name, the call needs a day and the text is no day text, or the call cannot be made
+/// on that day; `Stop::Short` and `Stop::Output` as they say.
 pub fn try_named<R: Threads + Wait + Sync, W: Write>(
     rt: &R,
     alloc: Global,

@@ -116,7 +116,7 @@ impl Putting<Task<Unnamed>> {
     }
 }
 
-// The first owner of a yard of two.
+// One owner of a yard of two.
 fn owner(alloc: Global) -> Result<Owner<Task<Unnamed>>, Stop> {
     let Ok((_yard, mut owners, _passes)) = Yard::new(alloc, 2) else {
         return Err(Stop::Short);
@@ -127,7 +127,7 @@ fn owner(alloc: Global) -> Result<Owner<Task<Unnamed>>, Stop> {
     }
 }
 
-// The first owner of a yard of two, with the first tasks of a day in its deque, so many, and the task after them. The
+// An owner of a yard of two, with the first tasks of a day in its deque, so many, and the task after them. The
 // first instructions of the day wait for no other.
 fn make_putting(
     alloc: Global,

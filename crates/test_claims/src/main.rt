@@ -1,6 +1,6 @@
-//! Claims all places of a table at once from eight threads with two seats each, and tells how often each place was
-//! claimed. Each thread tries every place, so that most claims meet those of other threads. `bench/claims.py` measures
-//! it.
+//! Claims all places of a table at once from eight threads with two seats each, and tells how many places were claimed
+//! exactly once. Each thread tries every place, so that most claims meet those of other threads. `bench/claims.py`
+//! measures it.
 #![tactic(auto)]
 
 ghost use Rattle.std.specs.Prelude.{◌≡◌, ◌<◌, ◌≤◌, ◌-◌, ◌*◌, ◌^◌, length, vec_len, IfOk};

@@ -1,5 +1,5 @@
-//! The engine on devices that move one byte a call and fail at a call, which no run of the program can show for each
-//! call, and on readers and writers of the standard library that fail at one call alone.
+//! `run` on devices that move one byte a call and fail at a call, which no run of the program can show for each call,
+//! and on readers and writers by the traits of the standard library that fail at one call alone.
 
 ghost use Rattle.reg_front.specs.Faulting.{sink_of, source_of};
 ghost use Rattle.reg_front.specs.Streams.{CanFail};
@@ -82,7 +82,8 @@ const PLAN: &str = "task,1,1\nend\n";
 // The totals after it.
 const TOTALS: &str = "totals,general,100,0,0\ntotals,aviation,50,0,0\nend\n";
 
-// A device that has these bytes to read, moves one byte in a call, and fails at this call, or at 0 never.
+// A device that has these bytes to read, moves one byte in a call, and fails at this call, counted from 1, or never if
+// it is 0.
 fn make_device<A: Abort>(rt: &A, alloc: Global, text: &str, call: usize) -> Faulty
     ensures reader { CanFail (source_of result) }
     ensures writer { CanFail (sink_of result) }
@@ -94,7 +95,7 @@ fn make_device<A: Abort>(rt: &A, alloc: Global, text: &str, call: usize) -> Faul
     Faulty::new(alloc, bytes, 1, call)
 }
 
-// What settling the day answers, and the writer. The reader and the writer fail at these calls.
+// What settling the day answers, and the writer. The reader and the writer fail at these calls, as `make_device` says.
 fn settle<T: Threads + Wait + Sync + Abort>(
     rt: &T,
     alloc: Global,

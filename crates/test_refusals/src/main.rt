@@ -5,8 +5,12 @@
 //! `settle_with:2`: mostly that of the workers. The day text of standard input is what each call is made on. After a
 //! call that was refused something the program writes `unchanged` if all that the call was lent is as it was before,
 //! and makes the call again. At last it writes `right` if the call left what it is to leave: a settled day as settling
-//! one instruction after another leaves it, anything else as the same call leaves it beside, where nothing is refused.
+//! one instruction after another leaves it, anything else as the same call, or the one by a single thread, leaves it
+//! where nothing is refused. Otherwise it writes `changed` or `wrong`.
 //! The calls of the crates below `reg_front` are in `test_calls`.
+//!
+//! The exit status is 0 after all words, 2 if the words can't be read, 3 if a word or the text is not taken, 4 if
+//! memory ran out outside the calls, and 5 if the output is not taken.
 #![tactic(auto)]
 
 mod front;
