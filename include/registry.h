@@ -13,7 +13,7 @@
  *   day, day_length    the day text: so many bytes that may be read. Any bytes will do: if they are no day text, the
  *                      answer says where. There is no zero at the end.
  *   room, room_length  where the text goes: so many bytes that may be read and written. They do not overlap the day
- *                      text, and nothing else reads or writes them during the call.
+ *                      text or a date, and nothing else reads or writes them during the call.
  *   A pointer with the length 0 may be null. A length is below 2^63, and in bytes.
  *   All of this memory stays the caller's. A call keeps no pointer.
  *
@@ -53,8 +53,8 @@ enum registry_status {
   REGISTRY_NO_DATE = 6     /* of registry_next alone, and no exit status: the date is none, or not later than the day */
 };
 
-/* What is wrong with the first faulty row. If several apply to it, the first of: END, TAG, FIELDS, the first faulty field
-   from the left, ORDER, and a LIMIT of how many there may be, or of a sum. */
+/* What is wrong with the first faulty row. If several apply to it, the first of: END, TAG, FIELDS, the first faulty
+   field from the left, ORDER, and a LIMIT of how many there may be, of a sum, or of a record number. */
 enum registry_cause {
   REGISTRY_END = 1,     /* the text ends although a row must follow, or a row follows the row `end` */
   REGISTRY_TAG = 2,     /* the tag is unknown or not allowed here */
@@ -70,7 +70,8 @@ enum registry_cause {
 struct registry_answer {
   uint32_t status; /* one of enum registry_status */
   uint32_t cause;  /* after REGISTRY_FAULT one of enum registry_cause, else 0 */
-  uint64_t row;    /* after REGISTRY_FAULT the number of the row, counted from 1, else 0 */
+  uint64_t row;    /* after REGISTRY_FAULT the number of the row, counted from 1, else 0; if the text ends too early,
+                      the number of rows plus 1 */
   size_t length;   /* after REGISTRY_DONE the bytes of the text, also if there was no room for them, else 0 */
 };
 
@@ -93,8 +94,8 @@ struct registry_answer registry_plan(const char *day, size_t day_length, char *r
 struct registry_answer registry_statement(const char *day, size_t day_length, uint32_t account, char *room,
                                           size_t room_length);
 
-/* The statements of all accounts in one text, in the order of the accounts: each is that of registry_statement, and ends
- * with its row `end`. The day is settled once. */
+/* The statements of all accounts in one text, in the order of the accounts: each is that of registry_statement, and
+ * ends with its row `end`. The day is settled once. */
 struct registry_answer registry_statements(const char *day, size_t day_length, char *room, size_t room_length);
 
 /* The text of the next day up to its instructions: the heading of the day with the date of the next one and the next
@@ -119,7 +120,8 @@ struct registry_answer registry_version_string(char *room, size_t room_length);
 /* The word of a cause (enum registry_cause), as the program writes it: `order`. At most 7 bytes. */
 struct registry_answer registry_cause_word(uint32_t cause, char *room, size_t room_length);
 
-/* The name of the check with this code, 1 to 28, as a log has it behind `refused,CODE`: `NotEnough`. At most 23 bytes. */
+/* The name of the check with this code, 1 to 28, as a log has it behind `refused,CODE`: `NotEnough`. It has at most
+ * 23 bytes. */
 struct registry_answer registry_refusal_word(uint32_t code, char *room, size_t room_length);
 
 /* Why the check with this code refuses an instruction, in an English sentence. It names no account and no amount. */

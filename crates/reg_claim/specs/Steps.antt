@@ -6,7 +6,7 @@ use Rattle.reg_claim.specs.declared.views.SeatView.{SeatView}
 use Rattle.reg_claim.specs.Views.{with_claimed, with_finished, with_seen, is_odd}
 
 -- what a seat may rely on of a count c that it finds: it is no less than what the seat has seen, a stop stays, it
--- counts at least what the seat itself finished, and it fits
+-- counts at least what the seat itself finished, and the number of places that it counts is below 2^32
 pub record IsLater (v : SeatView) (c : ℕ) : Type 0 where
   pub seen : v.seen ≤ c
   pub stopped : is_odd v.seen ≡ true → is_odd c ≡ true

@@ -19,7 +19,7 @@ impl ClaimTable {
     ///
     /// # Errors
     ///
-    /// `NoMemory` if there was no room for the words.
+    /// `NoMemory` if memory ran out.
     pub fn new(alloc: Global, count: u32) -> Result<(ClaimTable, Seat), NoMemory>
         ensures places { IfOk result (λ made. places made.0 ≡ count) }
         ensures seat { IfOk result (λ made. IsSeatOf made.0 made.1) }
@@ -31,7 +31,7 @@ impl ClaimTable {
     }
 
     /// Hands one part of a seat's stake to a new seat, which has seen what the first has. The lists stay with the
-    /// first. The seat must be of this table, and have two parts or more.
+    /// first. Answers the first seat and the new one. The seat must be of this table, and have two parts or more.
     pub fn split(&self, seat: Seat) -> (Seat, Seat)
         requires own { IsSeatOf self.now seat }
         requires stake { 2 ≤ (known seat).stake }

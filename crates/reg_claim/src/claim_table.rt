@@ -7,8 +7,8 @@ use crate::views::SeatView;
 use atomic_table::Table;
 use std::alloc::Global;
 
-/// A word for each place, and one for the count. It may be shared by any number of threads, each with a seat of its
-/// own.
+/// A word for each place, and one for the count. Up to 16 threads may share it, each with a seat of its own: a seat has
+/// one or more of the 16 parts of the stake.
 #[derive(Drop)]
 pub struct ClaimTable {
     pub(crate) table: Table<(), SeatView, u32, Claims, Global>,

@@ -2,9 +2,10 @@
 
 use std::collections::LinkedList;
 
-/// A seat's view of the table. No value of it is ever made: it is what proofs know of a seat.
+/// A seat's view of the table. No value of it is ever made: it is what proofs know of a seat. A seat that another one
+/// joined has the lists of both, its own first.
 pub struct SeatView {
-    /// The seat's part of the right to close the table. All parts are 16.
+    /// How many of the 16 parts of the right to close the table the seat has; 0 if it was joined to another seat.
     pub stake: u64,
     /// The places that the seat claimed, in the order in which it did.
     pub claimed: LinkedList<u32>,

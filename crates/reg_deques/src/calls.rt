@@ -73,11 +73,12 @@ fn join_deque_passes<T: Numbered + Drop>(
 }
 
 impl<T: Numbered + Drop> Yard<T> {
-    /// A deque for each worker, in which there is room for 16 tasks, its owner, and a pass for each worker.
+    /// A deque for each of 1 to 8 workers, in which there is room for 16 tasks at first, its owner, and a pass for each
+    /// worker. Owners and passes are in the order of the workers, from worker 0 on.
     ///
     /// # Errors
     ///
-    /// `NoMemory` if there was no room for the deques.
+    /// `NoMemory` if memory ran out.
     pub fn new(
         alloc: Global,
         workers: u32,
@@ -126,7 +127,8 @@ impl<T: Numbered + Drop> Yard<T> {
         self.stealers[at].steal(&mut pass.deque_passes[at])
     }
 
-    /// Takes the first task of another worker, if there is one and nobody is quicker. The pass must be of this yard.
+    /// Takes the first task of the worker `from`, counted from 0, if there is one and nobody is quicker. The pass must
+    /// be of this yard, and `from` a worker of it other than the pass's own.
     pub fn steal(&self, pass: &mut Pass<T>, from: u32) -> Option<T>
         requires of { IsPassOf self.now pass.old }
         requires within { from < worker_count self.now }
@@ -142,8 +144,9 @@ impl<T: Numbered + Drop> Yard<T> {
         }
     }
 
-    /// Takes the first task of the first other worker that has one, in rising number. `Empty` if each of their deques
-    /// was empty, and `Retry` if somebody was quicker at one. The pass must be of this yard.
+    /// Tries to take the first task of each other worker, in rising number, until it gets one. If it gets none, the
+    /// answer is `Retry` if somebody was quicker at a deque, and `Empty` if each of them was empty. The pass must be of
+    /// this yard.
     pub fn steal_any(&self, pass: &mut Pass<T>) -> Steal<T>
         requires of { IsPassOf self.now pass.old }
         ensures of { deques_of_pass pass.new ≡ deques_of_pass pass.old }
@@ -165,7 +168,7 @@ impl<T: Numbered + Drop> Yard<T> {
         if outrun { Steal::Retry } else { Steal::Empty }
     }
 
-    /// Makes one pass of two of this yard, which knows what both know. It is the first's worker's.
+    /// Makes one pass of two of this yard, which knows what both know. It is a pass of the worker that has the first.
     pub fn join(&self, pass: Pass<T>, other: Pass<T>) -> Pass<T>
         requires of { IsPassOf self.now pass }
         requires other { IsPassOf self.now other }

@@ -18,7 +18,7 @@ pub(crate) type Deque<T> = Worker<Ticketed<T>, Global, DequeView, InOrder<T>>;
 
 pub(crate) type TicketTable = Table<(), TicketView, (), Tickets, Global>;
 
-/// The owner of a deque: what it put, and what it took itself.
+/// The owner of a deque, which puts tasks into it and takes them. Proofs know what it put, and what it took itself.
 #[derive(Drop)]
 pub struct Owner<T: Numbered> {
     pub(crate) deque: Deque<T>,

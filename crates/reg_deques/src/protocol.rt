@@ -23,7 +23,7 @@ impl<T: Numbered> Protocol<Ticketed<T>, DequeView> for InOrder<T> {
 
     ghost first = { fresh_view };
 
-    // No pass is made that way.
+    // (for passes that a stealer of the kit makes; here the owner makes them all)
     ghost guest = { fresh_view };
 }
 
@@ -103,7 +103,7 @@ impl TableRule<(), TicketView, ()> for Tickets {
     ghost first = { λ k. owner_of [] };
 }
 
-// Of which number the task is that gets the next ticket.
+// The number of the task that gets the next ticket.
 pub(crate) trait Numbering {
     ghost number: { ℕ };
 }
@@ -126,7 +126,7 @@ impl<P: Numbering> Split<TicketView> for Issuing<P> {
     ghost right = { λ v. ticket_of (v.seen ++ P.number ∷ []) };
 }
 
-// It takes the ticket back, since the deque did not take the task.
+// The owner takes the last ticket back, since the deque did not take the task.
 pub(crate) struct Returning;
 
 impl Join<TicketView> for Returning {
@@ -159,7 +159,7 @@ impl Join<TicketView> for Joining {
     ghost spent = { empty_ticket_view };
 }
 
-// The lists that both saw become one.
+// The two lists that a joined seat has seen, its own and the other's, become one.
 pub(crate) struct Settling;
 
 impl Play<(), TicketView> for Settling {

@@ -1,5 +1,6 @@
 //! Words for counting in lists and joining them, and the facts about plain lists, numbers and sums that proofs of
-//! several crates cite. There is no code here. It uses nothing but `std`: each edit of `reg_claim` loads it.
+//! several crates cite. There is no code here. It uses nothing but `std`, so that `reg_claim`, which uses it, loads
+//! little.
 //!
 //! | where | what |
 //! |---|---|

@@ -82,8 +82,8 @@ fn bytes_for(weights: &[u64], size: u64, share: u64) -> u64 {
     bytes
 }
 
-/// Offsets at which the pieces of so many bytes of a file may begin, but for the first one; nothing, if no row is near
-/// one of them.
+/// Offsets at which the pieces of so many bytes of a file may begin, except the first one. `None` if no row is near one
+/// of them, or if memory ran out.
 pub(crate) fn find_cuts<F: ReadAt>(
     alloc: Global,
     file: &F,

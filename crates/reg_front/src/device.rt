@@ -69,8 +69,8 @@ pub(crate) fn read_all<R: Source>(alloc: Global, reader: &mut R) -> Result<Vec<u
 }
 
 // An empty text. It has room for the expected bytes, for one more, at which their end is found, and for an eighth more,
-// since the report of a day is longer than its input. If that is too much, it has room for the expected bytes, or none,
-// and gets it as the bytes come.
+// since the report of a day is longer than its input. If so much memory is refused, it has no room for the eighth, or
+// none at all, and gets room as the bytes come.
 fn begin_text(alloc: Global, expected: usize) -> Vec<u8>
     ensures { result.items ≡ [] }
 {

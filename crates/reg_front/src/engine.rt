@@ -32,9 +32,9 @@ use std::{mem, thread};
 /// - `WriteFailed` if a call of the writer fails, the last one among them, which flushes it. A prefix of the text has
 ///   then been written.
 ///
-/// A failed call is not tried again. After all faults except `WriteFailed`, nothing has been written. That a thread
-/// can't be started is no fault: the others do its work. So `NoThread` is never answered. Threads are started, and
-/// joined, and none waits for another one: this call returns, if those of the reader and the writer do.
+/// A failed call is not tried again. After all faults except `WriteFailed`, nothing has been written. It is no fault if
+/// a thread can't be started: the others do its work. So `NoThread` is never answered. Threads are started, and joined,
+/// and none waits for another one: this call returns, if those of the reader and the writer do.
 pub fn run<T: Threads + Sync, R: Source, W: Sink>(
     rt: &T,
     alloc: Global,

@@ -30,7 +30,7 @@ pub enum FrontFault {
     /// The account of a statement is not in the book.
     NoAccount,
     /// A thread could not be started. No call of this crate answers it, since the others then do its work. A program
-    /// over `settle_with` may tell it so.
+    /// over `settle_with` of `reg_work`, which may answer `NoThread`, can tell it by this one.
     NoThread,
     /// Memory ran out.
     NoMemory,

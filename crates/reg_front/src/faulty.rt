@@ -23,7 +23,8 @@ pub struct Faulty {
 
 impl Faulty {
     /// A device that has these bytes to read, moves at most `most` bytes in a call, and fails at its call number
-    /// `call`, counted from 1. If that is 0, it fails only if memory runs out.
+    /// `call`, counted from 1 over all reads, writes and flushes, or at none if that is 0. `most` must be 1 or more. A
+    /// write fails also if memory runs out.
     pub fn new(alloc: Global, bytes: Vec<u8>, most: usize, call: usize) -> Faulty
         requires { 0 < most }
         ensures source { source_of result ≡ record { bytes = Some bytes.items; failures = 0; flushed = false } }

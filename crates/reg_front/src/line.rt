@@ -63,8 +63,8 @@ pub(crate) fn text_of(fault: FrontFault) -> ArrayString<ROOM>
     }
 }
 
-/// Writes the line of a fault. If a call of the writer fails, it has then taken a prefix of the line, and there is no
-/// second try.
+/// Writes the line of a fault, with its end, and flushes the writer. If a call of the writer fails, it has then taken a
+/// prefix of the line, and there is no second try.
 pub fn tell_fault<F: Sink>(fault: FrontFault, faults: &mut F)
     requires { CanFail (F.stream faults.old) }
     ensures { IsTold fault (F.stream faults.old) (F.stream faults.new) }

@@ -18,8 +18,8 @@ pub trait ReadAt {
     // Its bytes, if they are known.
     ghost contents: { Self → Option (List ℕ) };
 
-    /// Puts the bytes from an offset on into the front of `room`, and answers how many; nothing, if the call failed. It
-    /// gives none only at the end or behind it, or if there is no room.
+    /// Puts the bytes from an offset on, counted from 0, into the front of `room`, and answers how many; `None` if the
+    /// call failed. It gives 0 bytes only at the end of the file or behind it, or if there is no room.
     fn read_at(&self, offset: u64, room: &mut [u8]) -> Option<usize>
         ensures bound { IfSome result (λ count. count ≤ length room.new) }
         ensures bytes { IfSome result (λ count. IfSome (contents self.now)
@@ -31,7 +31,7 @@ pub trait ReadAt {
 // The bytes of a piece, at least, about: fewer take less time than to start a thread.
 const LEAST_PIECE: u64 = 64 * 1024;
 
-// The file does not fill the room: the call failed, or it has fewer bytes there.
+// The file does not fill the room: the call failed, or gave fewer bytes.
 #[derive(Drop)]
 struct NotFilled;
 
@@ -137,8 +137,9 @@ fn ends_at<F: ReadAt>(file: &F, offset: u64) -> bool
 }
 
 /// All bytes of a file from an offset on, in pieces that begin with rows, read by at most so many threads. `to` is
-/// where the file ended when it was asked. Nothing, if that is not right any more, if the bytes are few or more than
-/// 2^30, or if a call failed or memory ran out.
+/// where the file ended when it was asked. `None` if that is not right any more, if there is only one thread, if the
+/// bytes are fewer than 2^17 or more than 2^30, if no row is near where a piece should begin, or if a call failed or
+/// memory ran out.
 pub fn read_in_pieces<T: Threads + Sync, F: ReadAt + Sync>(
     rt: &T,
     alloc: Global,

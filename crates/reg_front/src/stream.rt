@@ -14,7 +14,8 @@ use thiserror::Error;
 #[error("the call failed")]
 pub struct CallFailed;
 
-/// A reader that tells its bytes and counts its failed calls. Both are for proofs alone.
+/// A reader that tells its bytes and counts its failed calls. Both are for proofs alone. `read` may be called only
+/// while fewer than 2^64 - 1 calls have failed.
 pub trait Source {
     // The bytes that it has left, if they are known, and how many of its calls have failed.
     ghost stream: { Self → Stream };
@@ -49,7 +50,7 @@ pub trait Source {
 }
 
 /// A writer that tells its bytes, counts its failed calls, and tells whether it is flushed. All this is for proofs
-/// alone.
+/// alone. A call may be made only while fewer than 2^64 - 1 calls have failed.
 pub trait Sink {
     // The bytes that it holds, if they are known, how many of its calls have failed, and whether it has accepted a
     // flush since the last call of `write`.

@@ -59,7 +59,7 @@ pub(crate) struct Used {
 ///
 /// # Errors
 /// `Workers` if the number of workers is not 1 to 8, and `NoAccount` if the account of a statement is not in the book.
-/// Otherwise `NoMemory` if memory ran out. That a thread can't be started is no error.
+/// Otherwise `NoMemory` if memory ran out. It is no error if a thread can't be started.
 pub(crate) fn make_text<T: Threads + Sync>(
     rt: &T,
     alloc: Global,

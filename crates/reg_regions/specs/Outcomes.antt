@@ -23,8 +23,7 @@ IsRegionsFault workers book batch (WrongBase next) =
     (may_work workers ≡ true) × (next ≡ book.next) × (batch.base + 1 ≢ book.next)
 IsRegionsFault workers book batch NoMemory = (may_work workers ≡ true) × (batch.base + 1 ≡ book.next)
 
--- what comes back of a book that was not settled: the whole book if the fault was found before an account moved, and
--- nothing if memory ran out
+-- what comes back of a book that was not settled: nothing if memory ran out, and otherwise the whole book
 abbrev pub handed_back : RegionsFault → BookValue → Option BookValue
 handed_back Workers book = Some book
 handed_back (WrongBase next) book = Some book

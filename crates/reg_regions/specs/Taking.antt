@@ -31,7 +31,7 @@ pub record WereTaken (worker : ℕ) (k : TakerView) (numbers : List ℕ) : Type 
   pub after : TakerView
   pub taken : TakesAll worker k numbers after
 
--- each of several workers, with what it knew at first, took the regions at its place
+-- each of several workers, with what it knew at first, took the regions whose numbers the other list has at its index
 abbrev pub EachTook : List (ℕ × TakerView) → List (List ℕ) → Type 0
 EachTook began taken = (k : ℕ) (b : ℕ × TakerView) (numbers : List ℕ) → slice_get began k ≡ Some b
     → slice_get taken k ≡ Some numbers → WereTaken b.0 b.1 numbers

@@ -23,8 +23,9 @@ use std::thread::Threads;
 mod accounts;
 mod places;
 
-/// Admits advice on how a day is dealt out to these lists, each a region: accounts are swapped, and each then stands in
-/// its own. `None` if there is none, or if a test of it fails: the accounts then stand where they stood.
+/// Admits advice on how a day is dealt out to these lists, each a region: accounts are swapped, and those that
+/// instructions touch then stand in the regions of these. `None` if there is no advice, if a test of it fails, or if
+/// memory for a test ran out: the accounts then stand where they stood.
 pub(crate) fn admit<R: Threads + Sync>(
     rt: &R,
     alloc: Global,

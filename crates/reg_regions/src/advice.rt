@@ -28,7 +28,8 @@ mod lookups;
 mod movers;
 pub(crate) mod numbers;
 
-/// How the day is dealt out to these lists, each a region, or all to one. `None` if it can't be.
+/// How the day is dealt out to these lists, each a region or a part of one. `None` for one worker or one list, if there
+/// is no account, or if memory ran out.
 pub(crate) fn advise<R: Threads + Sync>(
     rt: &R,
     alloc: Global,
@@ -163,7 +164,7 @@ fn house(
     }
 }
 
-// So many instructions of one bundle that it is not worth to deal out the others.
+// If a bundle has more instructions than this, three fifths of all, it is not worth dealing out the others.
 fn most_of(instructions: u32) -> u32 {
     (instructions / 5).saturating_mul(3)
 }

@@ -56,8 +56,8 @@ fn all_places(alloc: Global, count: u32) -> Result<Vec<u32>, NoMemory>
 pub(crate) struct Dealing {
     /// For each list the region that it becomes a part of, counted from 0.
     pub(crate) joins: Vec<u32>,
-    /// Accounts that stand in a wrong region, each with one there.
+    /// The swaps, in their order. Each brings an account into the region to which its instructions are dealt.
     pub(crate) swaps: Vec<Swap>,
-    /// The regions, one behind the other.
+    /// What each region has to do, one region behind the other.
     pub(crate) deals: Vec<Deal>,
 }

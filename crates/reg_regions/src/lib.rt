@@ -14,6 +14,8 @@
 //!     region_is_as_the_day();
 //! }
 //! ```
+//!
+//! [`settle_regions`] and [`settle_without_shifts`] deal a day out to regions, and settle these by workers.
 #![tactic(auto)]
 
 mod admission;

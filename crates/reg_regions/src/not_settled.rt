@@ -47,7 +47,7 @@ impl NotSettled {
     }
 }
 
-/// Memory runs out while the accounts are on their way, or when room for the replies is wanted: the book is gone.
+/// Memory ran out: the book is gone.
 impl From<NoMemory> for NotSettled {
     ghost from_gives = { λ _ e. e ≡ record { fault = fault.NoMemory; parts = None } };
 

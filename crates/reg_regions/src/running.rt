@@ -48,7 +48,7 @@ mod threads;
 pub(crate) mod whole;
 mod worker;
 
-// So many instructions take less time than to start threads.
+// Fewer instructions than these take less time than to start threads.
 const FEW: u32 = 1_024;
 
 /// What workers made of lists of accounts.
@@ -64,8 +64,8 @@ pub(crate) struct Outcome<N> {
 
 /// Carries out the instructions of regions, each of which is a list of accounts, by workers that steal regions from one
 /// another. The calling thread is the last worker, and each of the others has a thread of its own where one can be
-/// started. If there is only one region with instructions, worker 0 alone carries them out, which is the calling thread
-/// then.
+/// started. If there is only one region with instructions, or if there are fewer than 1,024 instructions and the gate
+/// is open, worker 0 alone carries them out, which is the calling thread then.
 ///
 /// # Errors
 /// `NoMemory` if memory ran out. The lists are dropped then, and all threads have ended.

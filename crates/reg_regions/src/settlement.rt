@@ -48,10 +48,10 @@ const REGIONS_EACH: u32 = 3;
 /// none left, it takes one from another worker. The book after the day is the one that `settle_plain` and then
 /// `Book::commit` give, and the replies are those in the log.
 ///
-/// If the day can't be dealt out so, as with one worker, or if lists have no room for what belongs together, which is
-/// more than three fifths of all instructions, worker 0, which is the calling thread, carries out all of them in the
-/// order of the batch, and the book has one list afterwards. If there are fewer than 1,024 instructions, and the gate
-/// is open, it carries out all regions.
+/// If the day can't be dealt out so, as with one worker, or if lists have no room for what belongs together, and this
+/// has more than three fifths of all instructions, worker 0, which is the calling thread, carries out all of them in
+/// the order of the batch, and the book has one list afterwards. If there are fewer than 1,024 instructions, and the
+/// gate is open, it carries out all regions.
 ///
 /// There is a shift for each worker, from worker 0 on, and each place from 1 to the number of instructions is in one
 /// shift, once.
@@ -88,8 +88,8 @@ pub fn settle_regions<R: Threads + Sync, G: PlaceGate>(
     Ok(settle_book(rt, alloc, parts, rules, batch, workers, gate)?)
 }
 
-/// The same of a batch that begins with the book's next record number, by a number of workers within its limits: so
-/// neither is tested, and there is no other fault than want of memory. No shift is built.
+/// The same of a batch that begins with the book's next record number, by 1 to 8 workers: so neither is tested, and
+/// there is no other fault than want of memory. No shift is built.
 ///
 /// # Errors
 /// `NoMemory` if memory ran out: then the book is gone. All threads have ended.

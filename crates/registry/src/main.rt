@@ -31,9 +31,11 @@ use std::{env, io};
 /// and writes the command's text to `writer`. Help and the version go to `writer` too. Each stream is any reader or
 /// writer, whose failed calls are counted.
 ///
-/// Answers the exit status of the program: 0, or the status of the fault. A fault is written as one line to `faults`,
-/// and words that are not taken as a longer text, before any input is read. The status is the same if these can't be
-/// written.
+/// Answers the exit status of the program: 0 after the command's text, help or the version; 2 if the words, the number
+/// of workers or the account are not taken; 3 if the input is no day text; 4 if memory ran out; 5 if the input can't be
+/// read or has more than 2^30 bytes, or if the command's text can't be written. A fault is written as one line to
+/// `faults`, and why words are not taken as a longer text, before any input is read. The status is the same if one of
+/// these, help or the version can't be written.
 ///
 /// The memory that the command has used is not freed: the program ends with it.
 pub fn serve<

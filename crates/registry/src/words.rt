@@ -40,8 +40,8 @@ Exit statuses:
 /// The command that these words ask for. They stand without the program's name.
 ///
 /// # Errors
-/// What is to be shown in place of a run: the help that was asked for, or why the words are not taken. `OutOfMemory`
-/// if memory ran out.
+/// What is to be shown in place of a run: the help or the version that was asked for, or why the words are not taken.
+/// `OutOfMemory` if memory ran out.
 pub(crate) fn read_words<'a, S: AsStr>(alloc: Global, words: &'a [S]) -> Result<Command, Error> {
     let mut program = describe_program(alloc)?;
     match find_words(&mut program, words) {
@@ -52,7 +52,8 @@ pub(crate) fn read_words<'a, S: AsStr>(alloc: Global, words: &'a [S]) -> Result<
     }
 }
 
-// Whether the word for the number of workers is none. `clap` tells the limits of the type, which are others.
+// Whether the word for the number of workers is no number of 32 bits. `clap` would tell the limits of that type, which
+// are others than 1 to 8.
 fn is_of_workers<S: AsStr>(error: &Error, words: &[S]) -> bool {
     let is_settle = words.first().is_some_and(|word| word.as_str() == SETTLE);
     is_settle && error.kind() == ErrorKind::ValueValidation

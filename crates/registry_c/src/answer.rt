@@ -19,11 +19,12 @@ pub struct Answer {
     /// 0 if there is a text; 2 if there is no such account; 3 if the day text has a fault; 4 if memory ran out; 6 if
     /// the date of the next day is none, or not later than the day.
     pub status: u32,
-    /// The first cause that applies to the faulty row, from 1 on in the order of [`Cause`]. Otherwise 0.
+    /// The number of the first cause that applies to the faulty row, from 1 on in the order of [`Cause`]. Otherwise 0.
     pub cause: u32,
-    /// The number of the first faulty row, counted from 1. Otherwise 0.
+    /// The number of the first faulty row, counted from 1; if the text ends too early, the number of rows plus 1.
+    /// Otherwise 0.
     pub row: u64,
-    /// The number of bytes of the text, also if there was no room for them. Otherwise 0.
+    /// The number of bytes of the text, also if there was no room for them. After a fault 0.
     pub length: usize,
 }
 

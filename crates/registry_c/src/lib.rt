@@ -53,7 +53,8 @@ pub extern "C" fn registry_report_most(day_length: usize) -> usize
     most::room_for_report(day_length)
 }
 
-/// Settles the day as a trial: the log rows of its report alone, which say why each instruction is done or refused.
+/// Settles the day as a trial: the log rows of its report alone, which say of each instruction that it is done, or why
+/// it is refused.
 #[unsafe(no_mangle)]
 pub extern "C" fn registry_try(alloc: Global, day: &[u8], room: &mut [u8]) -> Answer
     ensures { Tells Log day.now result room.old room.new }
@@ -91,9 +92,9 @@ pub extern "C" fn registry_statements(alloc: Global, day: &[u8], room: &mut [u8]
     tell(alloc, Question::Statements, day, room)
 }
 
-/// The text of the next day up to its instructions, from the text of a day and a later date: its heading, and the
-/// accounts as the day leaves them. The law `each_next_text_is_read_on` of `reg_text` says how it is read with
-/// instructions behind it.
+/// The text of the next day up to its instructions, from the text of a day and a later date, YYYY-MM-DD: its heading,
+/// and the accounts as the day leaves them. The answer says so if there is no such date, or it is not later than the
+/// day. The law `each_next_text_is_read_on` of `reg_text` says how the text is read with instructions behind it.
 #[unsafe(no_mangle)]
 pub extern "C" fn registry_next(alloc: Global, day: &[u8], date: &[u8], room: &mut [u8]) -> Answer
     ensures { TellsNext day.now date.now result room.old room.new }

@@ -41,7 +41,7 @@ fn check_with(code: u32) -> Option<Refusal>
         .find(|check| u32::from(check.code()) == code)
 }
 
-/// The word of a cause; no letter for a number that is none.
+/// The word of a cause, or nothing.
 pub(crate) fn word_of_cause(number: u32) -> &'static str
     ensures { result.now ≡ word_of_cause (cause_with number) }
 {

@@ -17,7 +17,7 @@ use std::alloc::Global;
 ///
 /// # Errors
 /// `Row` if the bytes are no day text, with the first faulty row and the first cause that applies to it. `NoDate` if
-/// there is no such date, or it is not later than the day. Otherwise `NoMemory` if memory ran out.
+/// `date` is no date, or not later than the day. Otherwise `NoMemory` if memory ran out.
 pub(crate) fn next_for(alloc: Global, day: &[u8], date: &[u8]) -> Result<Vec<u8>, Fault>
     ensures { MatchResult result
         (λ text. IsNextDue day.now date.now (Ok text.items))

@@ -58,7 +58,7 @@ fn mark_while_new(marks: &mut [bool], places: &[u32]) -> bool
     true
 }
 
-// Marks a place, if it is one and is not marked already. Whether it was.
+// Marks a place, if it is one and is not marked already. Answers whether it has marked it.
 fn mark_if_new(marks: &mut [bool], place: u32) -> bool
     ensures size { length marks.new ≡ length marks.old }
     ensures marked { IsTrue result

@@ -8,7 +8,7 @@ use std::alloc::Global;
 /// How many regions a day has at most: three for each worker are wanted. If there are more lists, some are joined.
 pub(crate) const MOST_REGIONS: u32 = 64;
 
-// The list of the first of so many accounts is kept.
+// How many accounts a block has: the region of its first one is kept.
 const BLOCK: u32 = 64;
 
 /// Lists of accounts one behind the other, of which each is a region, or several that follow each other are one. The
@@ -19,11 +19,12 @@ pub(crate) struct Layout {
     pub(crate) accounts: u32,
     /// How many regions there are.
     pub(crate) regions: u32,
-    /// For each list the region that it is a part of, if lists may be joined.
+    /// For each list the region that it is a part of. Only [`Layout::within`] tells this.
     pub(crate) joins: Vec<u32>,
     // Where each region begins, and at the end how many accounts there are.
     starts: Vec<u32>,
-    // The first number in each list, or that of the list before it if it has none. Nothing if lists are joined.
+    // The first number in each list, or if it has no account, that of the list before it, or else the lowest of all.
+    // Only `Layout::of` tells this.
     firsts: Vec<AccountNo>,
     // For each block of accounts the region in which its first one stands.
     blocks: Vec<u32>,

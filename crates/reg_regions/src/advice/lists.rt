@@ -32,8 +32,8 @@ pub(crate) fn cut_lists(
     Ok(cut)
 }
 
-/// The same accounts, in their order, in fewer lists: for each list there is the number of that which it becomes a part
-/// of, counted from 0.
+/// The same accounts, in their order, in as many lists or fewer: `joins` has for each list the number, counted from 0,
+/// of that which it becomes a part of. These numbers rise by 0 or 1. If there are none, all become one list.
 ///
 /// # Errors
 /// `NoMemory` if memory ran out. The accounts are dropped then.

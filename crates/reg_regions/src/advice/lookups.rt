@@ -66,7 +66,7 @@ fn find_indexes(
     Ok(indexes)
 }
 
-// None if an account that must be known is not there.
+// No indexes, if an account that must be known is not there.
 fn indexes_of(lists: &[Vec<Account>], layout: &Layout, instruction: &Instruction) -> Indexes
     requires { IsRising (numbers (joined_lists lists.now)) }
 {

@@ -209,7 +209,7 @@ impl Movers {
     }
 
     // Swaps an account, which stands at an index of a region, with one at another index that no instruction touches.
-    // That one may have to go on for another.
+    // The other one then waits where the first one stood, until an account is to come there.
     fn change_places(
         &mut self,
         account: u32,

@@ -26,10 +26,11 @@ pub(crate) fn deal_regions<C: Cutting>(
     regions.reverse();
     let mut next = 0;
     for region in regions {
-        // (each region finds a deque with room, so neither comes)
+        // (there is a deque at each of these indexes, so this never comes)
         let Some(owner) = owners.get_mut(next) else {
             return Err(NoMemory);
         };
+        // (there may be up to 64 regions: a deque takes memory for more than 16)
         if owner.put(region).is_err() {
             return Err(NoMemory);
         }

@@ -41,7 +41,7 @@ pub(crate) trait Notes: Drop {
     fn number(&self) -> u32
         ensures { result ≡ worker self.now };
 
-    /// Notes that the places from here on are those of another region, and whether it came from another one's deque.
+    /// Notes that the places from here on are those of another region, and whether it came from another worker's deque.
     fn own(&mut self, stolen: bool) -> Result<(), NoMemory>
         ensures worker { worker self.new ≡ worker self.old }
         ensures same { places self.new ≡ places self.old };
@@ -160,7 +160,7 @@ impl Notes for NoShift {
 }
 
 /// Carries out the instructions at these places, one after another, on accounts that have those that they touch at
-/// these indexes. The worker whose notes these are passes the gate before each instruction.
+/// these indexes. The worker whose notes these are passes the gate before each instruction, and behind it.
 ///
 /// # Errors
 /// `NoMemory` if memory ran out.

@@ -84,6 +84,7 @@ fn only_list(alloc: Global, lists: Vec<Vec<Account>>) -> Result<Vec<Account>, No
     let Some(list) = lists.pop() else {
         return Ok(Vec::new(alloc));
     };
+    // (all lists were joined to one, so this never comes)
     if !lists.is_empty() {
         return Err(NoMemory);
     }
