@@ -12,14 +12,14 @@ from pathlib import Path
 from typing import NoReturn
 
 from registry_tools import main
-from registry_tools.office import folder, handed, handed_journal, journal
+from registry_tools.office import approvals, folder, handed, handed_journal, journal
 from registry_tools.office.layout import LABELS
 
 KILLED, FELL = 137, 70
 FAILURES = (errno.ENOSPC, errno.EROFS, errno.ENOMEM)
 KNOWN = {"office.ini", "journal.csv", "days", "next", "lock", "index.sqlite", "index.sqlite-journal", "labels.csv"}
 # Without when they were given.
-NAMES_LATER = re.compile(rb"(?<=,)[0-9-]{10}T[0-9:]{8}Z(?=,)")
+GIVEN_AT = re.compile(rb"(?<=,)[0-9-]{10}T[0-9:]{8}Z(?=,)")
 
 
 # How a folder stands.
@@ -40,9 +40,16 @@ def state_of(path: Path) -> object:
         parts_of(there),
         [each.rows for each in there.items(*handed.KINDS)],
         waits.exists() and waits.read_bytes(),
-        names.exists() and NAMES_LATER.sub(b"", names.read_bytes()),
-        handed.names_of_approvals(there.folder),
+        names.exists() and GIVEN_AT.sub(b"", names.read_bytes()),
+        asked_and_approved(office),
     )
+
+
+def asked_and_approved(office: folder.Office) -> dict[str, bytes]:
+    """What was asked for, as far as it counts, and who approved what. (What does not count any more may lie there.)"""
+    asked = [own.file for own in approvals.all_asked(office)]
+    approved = [path.name for path in approvals.named(office.next_folder, handed.APPROVED)]
+    return {name: GIVEN_AT.sub(b"", (office.next_folder / name).read_bytes()) for name in (*asked, *approved)}
 
 
 def parts_of(there: handed.HandedIn) -> object:
@@ -117,9 +124,10 @@ def interrupted_trial(
     error: int,
     states: tuple[object, object],
     done: int = 0,
+    in_parts: bool = False,
 ) -> str | None:
     """A command that ends, or fails, at this call: its folder is in one of two states then, and the same command leads
-    from the first to the second, with the status of one that is done."""
+    from the first to the second, with the status of one that is done. One that works in parts may stand between."""
     begun, ended = states
     status, _, says = runs.run(words, number, error)
     if "Traceback" in says or status not in ((done, 3) if error else (KILLED,)):
@@ -132,13 +140,13 @@ def interrupted_trial(
         if left:
             return f"left: {left}"
     now = state_of(office)
-    if now not in (begun, ended):
+    if now not in (begun, ended) and not in_parts:
         return f"neither as before nor as after: {says}"
     if status == done and now != ended:
         return f"said to be done, and is not: {says}"
-    if status == 3 and now == ended:
+    if status == 3 and now == ended != begun:
         return f"said not to be done, and is: {says}"
-    if now == begun:
+    if begun == ended or now != ended:
         status, _, says = runs.run(words)
         if status != done or state_of(office) != ended:
             return f"again: status {status}: {says}"

@@ -72,7 +72,7 @@ def second_login_trials(work: Path) -> Iterator[Told]:
     work.mkdir()
     for trials in (
         settings_trials, login_trials, rights_trials, change_trials, close_trials, other_commands_trials, forged_trials,
-        send_trials, at_once_trials,
+        not_asked_trials, undone_trials, several_trials, send_trials, at_once_trials,
     ):  # fmt: skip
         yield from trials(work)
 
@@ -350,6 +350,55 @@ def by_itself_trials(work: Path) -> Iterator[Told]:
     must_do(["approve", "close", "--date", TUESDAY, *own])
     yield "closed by who approved it, as itself", told(1, ["is asked for, and waits for"], *close, *of(login))
     yield "closed by another one", told(0, [f"{TUESDAY} is settled"], *close, *of("anna"))
+
+
+def not_asked_trials(work: Path) -> Iterator[Told]:
+    """Where nothing waits any more, the day does not say that somebody approved it, whatever the journal of next/ says:
+    who may write that one writes any name."""
+    office, own = settled(work, "not-asked", "change")
+    must_do([*CHANGE, *of("anna"), *own], ["approve", "1", *of("bert"), *own])
+    must_do(["hand-in", str(file_of(work, "acts.csv", ACT)), *of("cora"), *own])
+    settings, there = office / "office.ini", office / "next" / "journal.csv"
+    settings.write_text(settings.read_text().replace("commands = change", "commands = undo"))
+    there.write_text(f"{there.read_text()}approved,2025-09-23T08:00:00Z,Eve,2,eve\n")
+    must_do(["close", "--date", TUESDAY, *of("eva"), *own])
+    filed = handed_journal.read_journal(office / "days" / TUESDAY / "handed-in.csv")
+    yield "nobody approved it", differs((filed.approved, [part.start for part in filed.parts]), ([], [1, 2]))
+    yield "audit", told(0, ["0 differences"], "audit", "--second", *own)
+
+
+def undone_trials(work: Path) -> Iterator[Told]:
+    """What waited when its day was undone and closed once more stays, and is in nobody's way."""
+    _, own = settled(work, "undone", "change")
+    must_do([*CHANGE, *of("anna"), *own], ["approve", "1", *of("bert"), *own])
+    close = ["close", "--date", TUESDAY, "--yes", *of("eva"), *own]
+    must_do(close, ["undo", TUESDAY, *WHY, *of("eva"), *own], close)
+    yield "it stays", told(0, ["place 1, change by"], "approve", *own)
+    for command in ("status", "try"):
+        yield f"{command} beside it", told(0, [], command, *own)
+    acts, looked = file_of(work, "acts.csv", ACT), [f"of these, as it stands, on {WEDNESDAY}"]
+    yield "a hand-in beside it", told(0, looked, "hand-in", acts, *of("cora"), *own)
+    has = [f"handed in for {WEDNESDAY}: place 3"]
+    yield "a change beside it", told(0, has, *CHANGE[:3], "5505", *CHANGE[4:], *of("anna"), *own)
+    yield "a close without a date", told(2, [f"./day close --date {WEDNESDAY} closes"], "close", *of("eva"), *own)
+    must_do(["approve", "1", "3", *of("bert"), *own], ["close", "--date", WEDNESDAY, *of("eva"), *own])
+    yield "nothing is left", told(0, ["nothing waits"], "approve", *own)
+    yield "audit", told(0, ["0 differences"], "audit", "--second", *own)
+
+
+def several_trials(work: Path) -> Iterator[Told]:
+    """Several places are approved all or, if one of them can't be, none; what one login approved may be named once
+    more beside others, as the same command names it that goes on behind an interrupted one."""
+    office, own = settled(work, "several", "change")
+    for account in ("100210", "300118", "100377"):
+        must_do(["change", account, "--holder", "5503", *WHY, "--yes", *of("anna"), *own])
+    must_do(["take-back", "2", *WHY, *of("anna"), *own])
+    approve = ["approve", "1", "2", *of("bert"), *own]
+    yield "one that was taken back", unchanged(office, 2, ["place 2 was taken back"], *approve)
+    must_do(["approve", "1", *of("bert"), *own])
+    yield "by another one before", unchanged(office, 2, ["place 1 was"], "approve", "1", "3", *of("dan"), *own)
+    yield "one more", told(0, ["approved: place 3"], "approve", "1", "3", *of("bert"), *own)
+    yield "all once more", unchanged(office, 2, ["place 1 was approved"], "approve", "1", "3", *of("bert"), *own)
 
 
 def send_trials(work: Path) -> Iterator[Told]:

@@ -217,10 +217,11 @@ def is_second(office: Office, approval: Approval, command: str, sum_asked: str, 
 
 def look_at(office: Office, handed_in: HandedIn) -> None:
     """Notes which of the files that were handed in wait for another login, and who approved the others."""
+    # (a row of the journal of next/ approves nothing)
+    handed_in.waiting, handed_in.approved = [], []
     if not any(waits(office, command) for command in COMMAND_OF.values()):
         return
     valid = all_approvals(office).valid
-    handed_in.waiting, handed_in.approved = [], []
     for part in handed_in.parts:
         command = COMMAND_OF.get(part.kind)
         if command is None or not waits(office, command) or not handed_in.left_of(part):

@@ -4,6 +4,8 @@ release or correct by its date. Without words it shows what waits for whom.
   ./day approve 3                              the change at place 3, with all that was handed in with it
   ./day approve close --date 2025-09-24        the close that somebody asked for
 
+Several places are approved one after another: if the command is interrupted, the same one goes on with the others.
+
 An approval is of exactly what was asked for. A change counts from then on; a command is done when it is given again, by
 another login than the one that approves. If what it would do has changed by then, it waits once more.
 
@@ -47,7 +49,7 @@ def run(said: argparse.Namespace) -> int:
             raise WordsFault("--date stands behind a command: a place needs none")
         handed_in = office.handed_in()
         parts = [part_at(office, handed_in, word) for word in said.what]
-        for part in {part.start: part for part in parts}.values():
+        for part in left_to_approve(office, handed_in, parts):
             approve_part(office, handed_in, part)
     return 0
 
@@ -75,18 +77,27 @@ def part_at(office: Office, handed_in: HandedIn, word: str) -> Part:
     command = COMMAND_OF.get(part.kind)
     if command is None or not approvals.waits(office, command):
         raise WordsFault(f"place {word} does not wait for another login")
-    by = next((own for own in handed_in.approved if own.place == part.start), None)
-    if by is not None:
-        raise WordsFault(f"place {word} was approved by {by.login} at {by.at}")
     must_be_other(office, command, part.who, part.login)
+    if not handed_in.left_of(part):
+        raise WordsFault(f"place {part.start} was taken back")
     return part
+
+
+def left_to_approve(office: Office, handed_in: HandedIn, parts: list[Part]) -> list[Part]:
+    """What is not approved yet, each part once. Ends the command if another login approved one, or this one all."""
+    known = {own.place: own for own in handed_in.approved}
+    named = {part.start: part for part in parts}
+    left = [part for place, part in named.items() if place not in known]
+    for place in named:
+        by = known.get(place)
+        if by is not None and (by.login != office.login or not left):
+            raise WordsFault(f"place {place} was approved by {by.login} at {by.at}")
+    return left
 
 
 def approve_part(office: Office, handed_in: HandedIn, part: Part) -> None:
     """Approves something that was handed in."""
     items = [item for item in handed_in.items(part.kind) if item.part is part]
-    if not items:
-        raise WordsFault(f"place {part.start} was taken back")
     where = handed.places(part.start, part.end)
     left = approvals.approve(office, approvals.sum_of_part(handed_in, part), where)
     print(f"approved: {where}, by {awaited.who_did(office, part.who, part.login)}: {part.name}{left}")

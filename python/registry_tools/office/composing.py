@@ -65,7 +65,9 @@ def settlement_date(word: str | None, office: Office, handed_in: HandedIn) -> da
         return first.head.date
     last = office.last()
     assert last is not None  # (without a filed day there is the first text)
-    undone = [item.part.earliest for item in handed_in.items(*KINDS) if item.part.earliest]
+    # (what waited for another login when an undone day was closed once more keeps the date of that day)
+    of_later = (item.part.earliest for item in handed_in.items(*KINDS) if item.part.is_of_later(last.date))
+    undone = [date for date in of_later if date]
     if undone:
         return min(undone)
     later = [date for date in working_days(office, last, handed_in) if date > last.date]
