@@ -36,10 +36,10 @@ limits    settles days at every limit at once, by one to eight workers: 100,000 
 gigabyte  settles such a day of 2^30 bytes, with emissions of each year, by one, four and eight workers, and refuses one
           byte more.
 
-`days`, `orders`, `seams` and `changing` end after N minutes (left out: 10) or N texts; the same seed gives the same texts. FOLDER
-is where `limits` and `gigabyte` put their texts, of up to a gigabyte, and where texts on which an answer differs are
-kept (left out: out/long). N jobs run at once (left out: 1). The last line is 'N passed, M failed', which counts texts,
-or runs by `limits` and `gigabyte`.
+`days`, `orders`, `seams` and `changing` end after N minutes (left out: 10) or N texts; the same seed gives the same
+texts. FOLDER is where `limits` and `gigabyte` put their texts, of up to a gigabyte, and where texts on which an answer
+differs are kept (left out: out/long). N jobs run at once (left out: 1). The last line is 'N passed, M failed', which
+counts texts, or runs by `changing`, `limits` and `gigabyte`.
 """
 import argparse
 import datetime
@@ -56,7 +56,6 @@ from concurrent.futures import ProcessPoolExecutor
 from dataclasses import dataclass
 from pathlib import Path
 from random import Random
-from typing import BinaryIO
 
 import beside  # noqa: F401 (it finds the modules of cases/)
 from harness import TOP, Trials, program_of
@@ -311,28 +310,28 @@ def long_day() -> tuple[bytes, bytes]:
     return text, rules.answers(text)["settle"].encode()
 
 
-def change(chance: Random, file: BinaryIO) -> None:
+def change(chance: Random, path: Path) -> None:
     """Cuts a file short somewhere, or adds a row or an empty line to it."""
-    end = file.seek(0, os.SEEK_END)
     if chance.random() < 0.5:
-        file.truncate(chance.randrange(end))
+        os.truncate(path, chance.randrange(path.stat().st_size))
     else:
-        file.write(chance.choice([b"\n", b"end\n"]))
+        with path.open("ab") as file:
+            file.write(chance.choice([b"\n", b"end\n"]))
 
 
 def changed_meanwhile(task: Task) -> tuple[bool, str]:
     """Whether the file was read before somebody changed it, and what is wrong with the answer."""
     words, number, _ = task
     chance, (text, report) = Random(f"changing {words.seed} {number}"), long_day()
-    with tempfile.NamedTemporaryFile(buffering=0) as file, open(file.name, "rb") as theirs:
-        file.write(text)
-        workers = str(WORKERS[number % len(WORKERS)])
-        with subprocess.Popen(
-            [words.program, "settle", "--workers", workers],
-            stdin=theirs, stdout=subprocess.PIPE, stderr=subprocess.PIPE,
-        ) as run:  # fmt: skip
+    workers = str(WORKERS[number % len(WORKERS)])
+    with tempfile.TemporaryDirectory() as folder:
+        path = Path(folder, "day.csv")
+        path.write_bytes(text)
+        with path.open("rb") as file, subprocess.Popen(
+            [words.program, "settle", "--workers", workers], stdin=file, stdout=subprocess.PIPE, stderr=subprocess.PIPE
+        ) as run:
             time.sleep(chance.random() * LONGEST_WAIT)
-            change(chance, file)
+            change(chance, path)
             output, errors = run.communicate(timeout=MOST_SECONDS)
     is_whole = (output, errors, run.returncode) == (report, b"", 0)
     is_refused = not output and run.returncode in (3, 5) and FAULT.fullmatch(errors)

@@ -224,8 +224,10 @@ class MonthOfThree(Month):
     def second_of(self, part: Handed) -> str | None:
         """Who approved a file that has to be, and still may: the first one by the name of the approval."""
         command = WAITS_AS.get(part.kind, "")
-        may = [own for own in part.approved if self.may(own.rpartition(":")[2], command)] if part.approved else []
-        return min(may, key=lambda own: files.sum_of(own.encode()), default=None) if command in self.four_eyes else None
+        may = [own for own in part.approved or [] if self.may(own.rpartition(":")[2], command)]
+        if command not in self.four_eyes or not may:
+            return None
+        return min(may, key=lambda own: files.sum_of(own.encode()))
 
     def is_left(self, part: Handed, date: datetime.date) -> bool:
         return self.waits(part) or (part.earliest is not None and part.earliest > date)
