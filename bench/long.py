@@ -86,7 +86,7 @@ MOST_INPUT = 2**30
 ROUND = 64
 DATE, LAST_RECORD, MOST_INSTRUCTIONS = "2025-03-31", 10**15, 16_384
 # A file that changes has so many accounts, and a change comes at most so many seconds behind the start of a run.
-ACCOUNTS_OF_LONG, LONGEST_WAIT = 70_000, 0.15
+ACCOUNTS_OF_LONG, LONGEST_WAIT = 70_000, 0.02
 # What is told of an input that has a fault, or that can't be read to its end.
 FAULT = re.compile(rb"(row \d+: [a-z -]+|read failed)\n")
 # How many passed, and how many failed.
