@@ -1,8 +1,9 @@
-//! A gate that delays workers and notes who entered when.
+//! A gate that delays workers and notes who entered when, and whether each left as it had entered.
 
 use crate::stop::Stop;
 use crate::ways::Lane;
 use crossbeam_utils::Backoff;
+use reg_graph::MOST_WORKERS;
 use reg_regions::PlaceGate;
 use reg_tasks::{Naming, Task};
 use reg_work::Gate;
@@ -18,6 +19,9 @@ const MOST_DRAWN: u32 = 16;
 
 /// The number of no worker.
 pub(crate) const NOBODY: u32 = 9;
+
+// The place of a worker that is between two instructions.
+const OUTSIDE: u32 = 0;
 
 /// Whom a gate delays before each run.
 #[derive(Clone, Copy)]
@@ -57,6 +61,10 @@ pub(crate) struct Noting {
     next: AtomicU32,
     places: Vec<AtomicU32>,
     workers: Vec<AtomicU32>,
+    // With which place each worker entered and has not left.
+    inside: Vec<AtomicU32>,
+    // How often a worker entered or left and was not where it had to come from.
+    astray: AtomicU32,
 }
 
 /// Notes when workers entered and left with each place, in microseconds, and delays them.
@@ -144,6 +152,8 @@ impl Noting {
             next: AtomicU32::new(0),
             places: zeros(alloc, count)?,
             workers: zeros(alloc, count)?,
+            inside: zeros(alloc, MOST_WORKERS)?,
+            astray: AtomicU32::new(0),
         })
     }
 
@@ -174,6 +184,26 @@ impl Noting {
         Ok(order)
     }
 
+    // Lets a worker go from one place to another, and counts it if it was not there.
+    fn go(&self, worker: u32, from: u32, to: u32) {
+        let was_at = match self.inside.get(worker as usize) {
+            Some(place) => place.swap(to, Ordering::SeqCst),
+            None => to,
+        };
+        if was_at != from {
+            self.astray.fetch_add(1, Ordering::SeqCst);
+        }
+    }
+
+    /// Whether each worker left with each place with which it had entered, before it entered with another one.
+    pub(crate) fn is_left(&self) -> bool {
+        let all_outside = self
+            .inside
+            .iter()
+            .all(|place| place.load(Ordering::SeqCst) == OUTSIDE);
+        all_outside && self.astray.load(Ordering::SeqCst) == 0
+    }
+
     /// Whether a worker entered with just the places of its shift, in their order.
     pub(crate) fn is_followed(&self, shift: &Lane) -> bool {
         let mut entered = 0;
@@ -198,6 +228,11 @@ impl Gate for Noting {
 
 impl PlaceGate for Noting {
     fn enter(&self, worker: u32, place: u32) {
+        self.go(worker, OUTSIDE, place);
         self.pass(worker, place);
+    }
+
+    fn leave(&self, worker: u32, place: u32) {
+        self.go(worker, place, OUTSIDE);
     }
 }

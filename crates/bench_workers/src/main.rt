@@ -16,7 +16,7 @@
 //! `try` settles by workers that steal and are delayed before each run, and writes `same` if the settled day is that of
 //! `plain`, each place was run once, the order in which workers entered the gate is legal, and each worker's shift is
 //! what it entered with. Then it does the same by workers that own regions of the book, with the book that `place`
-//! leaves.
+//! leaves; each of these must also leave with the place with which it entered.
 //!
 //! `each` does what `try` does with several day texts that stand one behind another, once with each, and writes a line
 //! for each.

@@ -109,6 +109,9 @@ fn try_regions<R: Threads + Sync>(
     if told(alloc, &joined(alloc, closed)?)?.as_str() != wanted {
         return Ok("another closed day");
     }
+    if !gate.is_left() {
+        return Ok("a worker did not leave as it had entered");
+    }
     judge(alloc, day, &gate, shifts.as_slice())
 }
 

@@ -44,25 +44,25 @@ fn plainly(rt: &impl Abort, alloc: Global, instructions: &str) -> String {
     String::from_utf8(bytes).expect(rt, "a text")
 }
 
-// Adds behind how many places of a worker each region stands that it stole.
-fn add_stolen(rt: &impl Abort, alloc: Global, told: &mut String, regions: &[OwnedRegion]) {
+// Adds behind how many places of a worker each of its regions stands: behind `=` one of its own, behind `+` one that it
+// stole.
+fn add_regions(rt: &impl Abort, alloc: Global, told: &mut String, regions: &[OwnedRegion]) {
     for region in regions {
-        if region.stolen {
-            let one = format!(in alloc; "+{} ", region.before);
-            told.push_str(one.expect(rt, "memory").as_str())
-                .expect(rt, "memory");
-        }
+        let sign = if region.stolen { "+" } else { "=" };
+        let one = format!(in alloc; "{sign}{} ", region.before);
+        told.push_str(one.expect(rt, "memory").as_str())
+            .expect(rt, "memory");
     }
 }
 
-// How many places each worker ran, and what it stole.
+// How many places each worker ran, and its regions.
 fn lengths(rt: &impl Abort, alloc: Global, shifts: &[WorkShift]) -> String {
     let mut told = String::new(alloc);
     for shift in shifts {
         let one = format!(in alloc; "{}:{} ", shift.worker(), shift.places().len());
         told.push_str(one.expect(rt, "memory").as_str())
             .expect(rt, "memory");
-        add_stolen(rt, alloc, &mut told, shift.regions());
+        add_regions(rt, alloc, &mut told, shift.regions());
     }
     told
 }
@@ -162,7 +162,7 @@ impl PlaceGate for HeldLast {
 fn instructions_of_two_bundles_run_at_once(rt: HostRuntime) {
     let gate = Meeting::of(2);
     let told = shifts(&rt, rt.alloc(), APART, 2, &gate);
-    assert_eq!(rt; told.as_str(), "0:1 1:1 ");
+    assert_eq!(rt; told.as_str(), "0:1 =0 1:1 =0 ");
     assert_eq!(rt; gate.missed.load(Ordering::SeqCst), 0);
 }
 
@@ -170,7 +170,10 @@ fn instructions_of_two_bundles_run_at_once(rt: HostRuntime) {
 fn eight_workers_run_eight_bundles_at_once(rt: HostRuntime) {
     let gate = Meeting::of(8);
     let told = shifts(&rt, rt.alloc(), UNKNOWN, 8, &gate);
-    assert_eq!(rt; told.as_str(), "0:1 1:1 2:1 3:1 4:1 5:1 6:1 7:1 ");
+    assert_eq!(rt;
+        told.as_str(),
+        "0:1 =0 1:1 =0 2:1 =0 3:1 =0 4:1 =0 5:1 =0 6:1 =0 7:1 =0 "
+    );
     assert_eq!(rt; gate.missed.load(Ordering::SeqCst), 0);
 }
 
@@ -182,7 +185,8 @@ fn a_held_worker_holds_up_no_region_but_its_own(rt: HostRuntime) {
     };
     let told = shifts(&rt, rt.alloc(), SIX, 2, &gate);
     assert!(rt;
-        told.as_str() == "0:1 1:5 +3 +4 " || told.as_str() == "0:5 +3 +4 1:1 ",
+        told.as_str() == "0:1 =0 1:5 =0 =1 =2 +3 +4 "
+            || told.as_str() == "0:5 =0 =1 =2 +3 +4 1:1 =0 ",
         "{told}"
     );
     assert_eq!(rt; gate.meeting.missed.load(Ordering::SeqCst), 0);
@@ -228,18 +232,18 @@ fn the_last_worker_of_eight_holds_up_no_region_but_its_own(rt: HostRuntime) {
     assert_eq!(rt; gate.meeting.missed.load(Ordering::SeqCst), 0, "{told}");
 }
 
-// A day of one bundle is not dealt out: worker 0 carries it out.
+// A day of one bundle is not dealt out: worker 0 carries it out. The other region has no instructions.
 #[test]
 fn worker_0_carries_out_a_day_of_one_bundle(rt: HostRuntime) {
     let told = shifts(&rt, rt.alloc(), TWICE, 4, &Meeting::of(1));
-    assert_eq!(rt; told.as_str(), "0:2 1:0 2:0 3:0 ");
+    assert_eq!(rt; told.as_str(), "0:2 =0 =2 1:0 2:0 3:0 ");
 }
 
 // At an open gate nobody waits, and worker 0 is done with a small day before another has begun.
 #[test]
 fn worker_0_carries_out_a_small_day_at_an_open_gate(rt: HostRuntime) {
     let told = shifts(&rt, rt.alloc(), UNKNOWN, 4, &FreePlaces);
-    assert_eq!(rt; told.as_str(), "0:8 1:0 2:0 3:0 ");
+    assert_eq!(rt; told.as_str(), "0:8 =0 =1 =2 =3 =4 =5 =6 =7 1:0 2:0 3:0 ");
 }
 
 #[test]
