@@ -486,7 +486,9 @@ class MonthOfThree(Month):
     def look(self) -> None:
         """Somebody looks at the folder: whatever it is in the middle of, it is sound, and no look changes it."""
         command, begun = self.chance.choice(LOOKS), self.stands()
-        wrong = self.run(command, wanted=(0, 1) if command == "try" else (0,))
+        # (before a day is settled nothing is due)
+        refuses = command == "due" and not self.filed
+        wrong = self.run(command, wanted=(0, 1) if command == "try" else (2,) if refuses else (0,))
         if wrong or self.stands() != begun:
             raise Fault(wrong or f"{command} changes something")
 

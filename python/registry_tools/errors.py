@@ -36,6 +36,10 @@ class FileFault(Exception):
         return f"{place}: {field}found {self.found}; expected {self.expected}"
 
 
+class UnwrittenFault(FileFault):
+    """A file that a command writes cannot be written: nothing is wrong with what it reads."""
+
+
 class RowFault(FileFault):
     """A row has a fault: its number and the cause, as the program says it."""
 

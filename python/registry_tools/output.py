@@ -11,7 +11,7 @@ from collections.abc import Iterator
 from types import TracebackType
 
 from registry_tools import steps
-from registry_tools.errors import FileFault, of_file
+from registry_tools.errors import FileFault, UnwrittenFault, of_file
 from registry_tools.office.layout import must_not_be_of_folder
 
 # How the name of a file or folder ends that is being written: `.NAME.PROCESS` stands before it.
@@ -23,7 +23,7 @@ ANYBODY_WRITES = stat.S_IWUSR | stat.S_IWGRP | stat.S_IWOTH
 
 def cannot(path: Path, error: OSError) -> FileFault:
     """The fault of a file that cannot be written."""
-    return of_file(path, f"it cannot be written: {error.strerror}")
+    return UnwrittenFault(path, 0, "", f"it cannot be written: {error.strerror}", "")
 
 
 @contextlib.contextmanager

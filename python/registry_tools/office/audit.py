@@ -27,7 +27,7 @@ import sqlite3
 from typing import Iterator
 
 from registry_tools import showing, tables
-from registry_tools.errors import FOUND, FileFault, WordsFault
+from registry_tools.errors import FOUND, FileFault, UnwrittenFault, WordsFault
 from registry_tools.notes import LOOK, counted
 from registry_tools.office import (
     anchors, approvals, files, folder, handed, index, journal, lock, past, settings, settling, words,
@@ -196,6 +196,9 @@ def look_at_days(
             if database and (before or event is filed[0]):
                 look_at_index(audit, database, own, before)
             before = own
+        except UnwrittenFault:
+            # (as where no room is left for what is compared: the folder has no fault)
+            raise
         except FileFault as fault:
             audit.add(fault, mend=audit.mending(event.date))
             before = None
