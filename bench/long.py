@@ -70,8 +70,9 @@ from drawing import PAIRS, damaged_rows, drawn_rows, text_of
 
 WORKERS = range(1, 9)
 PROCESSORS = (1, 2, 4)
-# Of each drawn day so many more are made.
-MORE_DAYS = 63
+# Of each drawn day so many more are made, and of one with so many rows fewer: most of these are its working days, which
+# are read again with each.
+MORE_DAYS, FEW_MORE_DAYS, MANY_ROWS = 63, 7, 2_000
 # One of so many drawn days grows until it has several parts.
 ONE_GROWS = 25
 # One of so many has so many instructions that threads carry them out, though there are few accounts.
@@ -81,6 +82,8 @@ MANY_INSTRUCTIONS = 1_024
 EACH_ROW = 300
 # A text is read by so many numbers of workers, each time with other seams.
 SEAMED = 3
+# One of so many of these texts is drawn, and the others are changed texts of cases/; one of so many drawn ones is damaged.
+ONE_IS_DRAWN, ONE_IS_DAMAGED = 4, 4
 MOST_SECONDS, MOST_SECONDS_OF_MANY = 60, 300
 MOST_INPUT = 2**30
 ROUND = 64
@@ -184,24 +187,24 @@ def in_other_orders(chance: Random, rows: list[str]) -> Iterator[bytes]:
     first = next((place for place, row in enumerate(rows) if row.startswith("do,")), len(rows) - 1)
     start, own = "\n".join([*rows[:first], ""]).encode(), [f"{row}\n".encode() for row in rows[first:-1]]
     yield b"".join([start, *own, b"end\n"])
-    for _ in range(MORE_DAYS):
+    for _ in range(MORE_DAYS if len(rows) < MANY_ROWS else FEW_MORE_DAYS):
         is_repeated = own and chance.random() < 0.2
         drawn = chance.choices(own, k=len(own)) if is_repeated else chance.sample(own, chance.randint(0, len(own)))
         yield b"".join([start, *drawn, b"end\n"])
 
 
-def ordered_wrongly(words: Words, rows: list[str], number: int) -> tuple[bytes, int, str]:
+def ordered_wrongly(words: Words, rows: list[str], number: int) -> tuple[bytes, int, int, str]:
     """What is wrong with the days that come of these rows, of which the first one is as it is: the texts of all of
-    them, or of the one that differs; how many runs there were; and what is said."""
+    them, or of the one that differs; how many days and runs there were; and what is said."""
     chance = Random(f"orders {number}")
     texts = [*in_other_orders(chance, rows)]
     on_processors(PROCESSORS[number % len(PROCESSORS)], chance)
     said = all_at_once(words.workers, texts, chance) if words.workers else one_by_one(words.program, texts, chance)
     if said:
-        return b"".join(texts), 0, said
+        return b"".join(texts), len(texts), 0, said
     text, workers = texts[number % len(texts)], 1 + number % len(WORKERS)
     said = fuzz.difference(words.program, f"settle --workers {workers}", text, expected_of(text))
-    return text, 2 * len(texts) + 1, said
+    return text, len(texts), 2 * len(texts) + 1, said
 
 
 def all_at_once(workers_program: Path, texts: list[bytes], chance: Random) -> str:
@@ -275,12 +278,11 @@ def try_text(task: Task) -> tuple[bytes, int, int, str]:
     chance = Random(f"long {words.seed} {seed}")
     number = 10_000_000 * words.seed + seed
     if words.part == "orders":
-        text, runs, said = ordered_wrongly(words, drawn_rows(number), number)
-        return text, 1 + MORE_DAYS, runs, said
-    if words.part == "seams" and seed % 2:
+        return ordered_wrongly(words, drawn_rows(number), number)
+    if words.part == "seams" and seed % ONE_IS_DRAWN:
         text = mutations.mutated(chance, chance.choice(cases), chance.choice(cases), False)
     else:
-        text = drawn_text(number, chance, seed % 4 == 2)
+        text = drawn_text(number, chance, chance.randrange(ONE_IS_DAMAGED) == 0)
     runs, said = (seamed_wrongly if words.part == "seams" else settled_wrongly)(words, text, number)
     return text, 1, runs, said
 
