@@ -82,7 +82,8 @@ MANY_INSTRUCTIONS = 1_024
 EACH_ROW = 300
 # A text is read by so many numbers of workers, each time with other seams.
 SEAMED = 3
-# One of so many of these texts is drawn, and the others are changed texts of cases/; one of so many drawn ones is damaged.
+# One of so many of these texts is drawn, and the others are changed texts of cases/; one of so many drawn ones is
+# damaged.
 ONE_IS_DRAWN, ONE_IS_DAMAGED = 4, 4
 MOST_SECONDS, MOST_SECONDS_OF_MANY = 60, 300
 MOST_INPUT = 2**30
