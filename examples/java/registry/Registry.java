@@ -78,7 +78,7 @@ public final class Registry {
         return ask(TOTALS, day, 0);
     }
 
-    /** The statement of an account over the day. */
+    /** The statement of an account over the day. If it is not there: an {@link IllegalArgumentException}. */
     public static String statement(byte[] day, int account) throws Fault {
         return ask(STATEMENT, day, account);
     }

@@ -131,7 +131,8 @@ def account_rows(settled: Settled) -> Iterator[Cells]:
     parts = rows_of_parts(settled.report.numbers)
     starts = {first for part in parts for first, _ in index.ranges(part, index.RANGE)}
     for number, block in settled.report.book.items():
-        _, _, kind, holder, status, _, _, _, general, aviation = block.rows[0].split(",")
+        _, _, kind, holder, status, *_ = block.rows[0].split(",", 5)
+        general, aviation = block.held_fields
         touched = (grouped(count[number, outcome]) for outcome in OUTCOMES)
         named = [settled.names.name_of(ACCOUNT, number)] if settled.names.has(ACCOUNT) else []
         yield (

@@ -38,7 +38,7 @@ class Block:
     @property
     def held_fields(self) -> list[str]:
         """What the account holds, as its row says it: general and aviation."""
-        return self.source.rows[self.index].split(",")[8:]
+        return self.source.rows[self.index].split(",", 10)[8:10]
 
     @property
     def line(self) -> int:

@@ -56,7 +56,7 @@ def sums_of(rows: Iterable[str]) -> dict[str, Sums]:
             if is_reversed == "no":
                 retired[what, kind] += int(amount)
         elif row[0] == "a":
-            _, general, aviation = row.rsplit(",", 2)
+            general, aviation = row.split(",", 10)[8:10]
             held["general"] += int(general)
             held["aviation"] += int(aviation)
     return {kind: Sums(held[kind], retired["surrender", kind], retired["deletion", kind]) for kind in rules.KINDS}
