@@ -5,9 +5,10 @@
  *   if (answer.status == REGISTRY_DONE && answer.length <= sizeof room)
  *     fwrite(room, 1, answer.length, stdout);
  *
- * Each call reads a day text and writes the text of a command, several such texts, or the beginning of the next day's.
- * docs/FORMATS.md describes all of these texts. Amounts in them are whole allowances, each of one tonne of carbon
- * dioxide equivalent; figures are tonnes; dates are YYYY-MM-DD.
+ * A call with a day text reads it and writes the text of a command, several such texts, or the beginning of the next
+ * day's. The other calls tell a length, a word or a version, and take no memory. docs/FORMATS.md describes all of these
+ * texts. Amounts in them are whole allowances, each of one tonne of carbon dioxide equivalent; figures are tonnes;
+ * dates are YYYY-MM-DD.
  *
  * What a caller gives
  *   day, day_length    the day text: so many bytes that may be read. Any bytes will do: if they are no day text, the
@@ -27,7 +28,8 @@
  * day texts may be shared. Not from a signal handler, and not in a forked child of a process with several threads. A
  * call needs less than 128 KiB of the stack of its thread, however long the day text is.
  *
- * The library was proved to answer as it is said here (crates/registry_c). This header is written by hand.
+ * The library was proved to answer as it is said here (crates/registry_c), if the caller gives what is asked for above:
+ * no call tests that. This header is written by hand, and cases/run-library compares it with the crate.
  */
 #ifndef REGISTRY_H
 #define REGISTRY_H
