@@ -96,8 +96,10 @@ def rows_of_instruction(said: Said) -> bytes:
         raise WordsFault("no act was chosen")
     columns = [*sheets.PROPOSAL, *sheets.columns_of_act(act)]
     cells = {name: said.get(name, "").strip() for name in columns}
-    if cells["proposed"] == OTHER:
-        cells["proposed"] = said.get("other_day", "").strip()
+    # (a day that was typed counts, whatever stands in the list above it)
+    other_day = said.get("other_day", "").strip()
+    if other_day or cells["proposed"] == OTHER:
+        cells["proposed"] = other_day
     filled = [name for name in columns if cells[name] or name in sheets.PROPOSAL]
     stream = io.StringIO()
     csv.writer(stream, lineterminator="\n").writerows([filled, [cells[name] for name in filled]])
