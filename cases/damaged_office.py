@@ -281,9 +281,10 @@ def advice_trials(work: Path) -> Iterator[Trial]:
     for name, old, new, advice in (
         ("days/2025-03-31/report.csv.gz", b"account,2,trading,12,open,no,no,0,", b"account,2,trading,12,open,no,no,0,1",
          "mend the files of 2025-03-31 first, and audit again"),
-        ("journal.csv", b"filed,", b"filed ,", "mend the journal first, and audit again"),
+        ("journal.csv", f"{DAY},".encode(), b"2025-03-30,", "mend the journal first, and audit again"),
     ):  # fmt: skip
         office, own = two_days(work, f"advice of {Path(name).name}")
+        must_do([*CLOSE, "2025-04-02", *own])
         path = office / name
         content = path.read_bytes()
         plain = gzip.decompress(content) if path.suffix == ".gz" else content
