@@ -24,7 +24,7 @@ NOT_WHOLE = "the form is not whole: nothing was done"
 LONGEST_FIELD = 200
 # The words of a form that its page makes; those that are no fields of what it asks for; and forms of no own page.
 OF_PAGE = {"token", "once", "state"}
-OF_FORM = OF_PAGE | {"who", "why"}
+OF_FORM, OF_UPLOAD = OF_PAGE | {"who", "why"}, {"place", "again", "dates"}
 OF_TODAY = {"/approve", "/put-right"}
 
 
@@ -43,7 +43,8 @@ def once() -> str:
 def way_back() -> str:
     """The address of the form that was sent, with what was typed."""
     path = "/" if flask.request.path in OF_TODAY else "/" + flask.request.path.split("/")[1]
-    typed = {name: own for name, own in flask.request.form.to_dict(flat=False).items() if name not in OF_PAGE}
+    said = flask.request.form.to_dict(flat=False)
+    typed = {name: own for name, own in said.items() if name not in OF_PAGE | OF_UPLOAD or name == "dates" and any(own)}
     return address_of(path, {name: [word[:LONGEST_FIELD] for word in words] for name, words in typed.items()})
 
 
@@ -88,9 +89,10 @@ def look(served: Served) -> Any:
     """Shows what would come of files or an instruction, and leads back to what was typed. WordsFault if it is none."""
     place, typed = form("place") or uploaded(served), {}
     if form("act"):
+        typed = {name: form(name)[:LONGEST_FIELD] for name in flask.request.form if name not in OF_FORM | OF_UPLOAD}
+    if typed and not form("place"):
         rows = forms.rows_of_instruction(flask.request.form)
         served.jobs.place_for(served.jobs.private / place, looks.TYPED).write_bytes(rows)
-        typed = {name: form(name)[:LONGEST_FIELD] for name in flask.request.form if name not in OF_FORM}
     paths, reading, dates = served.jobs.upload(place), served.reading, form("dates")
     if not paths:
         raise WordsFault("no file was chosen")
@@ -103,7 +105,9 @@ def look(served: Served) -> Any:
     back = f"{address_of('/hand-in', {**typed})}#one" if typed else address_of("/hand-in", {"dates": dates or None})
     return show_page(
         "look", "A look before it is handed in", own=own, whys=whys(own.looked), back=back, is_typed=bool(typed),
-        of_upload=[("place", place), ("dates", dates), *(("again", f"{file}:{line}") for file, line in again)],
+        # (an instruction that was typed goes with its file, so that it can be led back to)
+        of_upload=[("place", place), ("dates", dates), *typed.items(),
+                   *(("again", f"{file}:{line}") for file, line in again)],
         counts=[(i.name, f"{handed.NAMES[i.kind]} {i.count}") for i in own.added.parts] if own.added else [],
         rows=[(tried.place, tried.words, *proposal(served, tried), tried.said(), tried) for tried in own.looked],
         shown_row=lambda row: (*row[:4], outcome(row[5])), names=[path.name for path in paths],

@@ -242,7 +242,7 @@ def job(served: Served, number: str) -> Any:
     if there is None:
         raise WordsFault("the desk knows nothing of this any more: Today and the journal say what was done")
     date = next((word.partition("=")[2] for word in there.words if word.startswith("--date=")), "")
-    leads = BEHIND.get(there.command, ("/", "Today"))
+    leads = ("/", "Today") if there.is_fault() else BEHIND.get(there.command, ("/", "Today"))
     if there.status == 0 and there.command == "close":
         leads = (f"/days/{date}", "To the day")
     if there.status == 0 and there.made():
