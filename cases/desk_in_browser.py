@@ -29,6 +29,12 @@ LOOKED_AT = (
     "/send",
 )  # fmt: skip
 WIDTHS = (1280, 320)
+# Where rows are stacked although there is room; and the numbers that then stand far from the names of their columns.
+BETWEEN = 768
+FAR = (
+    "[...document.querySelectorAll('td.n')].filter(it => getComputedStyle(it).display == 'block'"
+    " && it.getBoundingClientRect().width > 400).length"
+)
 ARRIVED = (
     "document.readyState == 'complete' && document.body && !document.body.dataset.old"
     " && document.querySelector('footer') && !document.body.innerText.includes('At work')"
@@ -255,6 +261,10 @@ def looks(ana: Visitor) -> Iterator[tuple[str, object]]:
         (SAVED / f"{name}.pdf").write_bytes(paper)
         yield f"{path} on paper", on_paper(ana)
         yield f"{path} is printed on A4", None if re.search(rb"/MediaBox \[0 0 59[45]", paper) else "it is not"
+    for path in ("/compliance", "/accounts/100377?history=1"):
+        ana.open(path, BETWEEN)
+        far = ana.browser.value(FAR)
+        yield f"{path}, {BETWEEN} wide: numbers are beside their names", f"{far} are far away" if far else None
 
 
 def on_paper(ana: Visitor) -> object:
