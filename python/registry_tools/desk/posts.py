@@ -6,9 +6,9 @@ import flask
 
 from registry_tools.desk import forms, gate, looks
 from registry_tools.desk.gate import Served
-from registry_tools.desk.shown import address_of, outcome, show_page, sorted_table
+from registry_tools.desk.shown import ROWS, address_of, outcome, show_page, sorted_table
 from registry_tools.errors import WordsFault
-from registry_tools.office import handed
+from registry_tools.office import handed, trial
 from registry_tools.office.people import MAY_WAIT
 from registry_tools.office.trial import Looked, whys
 from registry_tools.office.words import one_line
@@ -109,9 +109,15 @@ def look(served: Served) -> Any:
         of_upload=[("place", place), ("dates", dates), *typed.items(),
                    *(("again", f"{file}:{line}") for file, line in again)],
         counts=[(i.name, f"{handed.NAMES[i.kind]} {i.count}") for i in own.added.parts] if own.added else [],
-        rows=[(tried.place, tried.words, *proposal(served, tried), tried.said(), tried) for tried in own.looked],
+        rows=[(own.place, own.words, *proposal(served, own), own.said(), own) for own in first_of(own.looked)],
+        outcomes=trial.counts_of(own.looked),
         shown_row=lambda row: (*row[:4], outcome(row[5])), names=[path.name for path in paths],
     )  # fmt: skip
+
+
+def first_of(looked: list[Looked]) -> list[Looked]:
+    """What would come of instructions: of more than a page shows, those first that would be refused."""
+    return looked if len(looked) <= ROWS else sorted(looked, key=lambda tried: not tried.is_refused)
 
 
 def proposal(served: Served, tried: Looked) -> tuple[str, str]:

@@ -109,8 +109,9 @@ def due_until(office: Office, until: datetime.date) -> list[Due]:
 def deadlines(dates: DueDates, day: DayText, report: Report, names: Labels) -> Iterator[Due]:
     """By when operators have to do something about each year of the current period that is over. Of deadlines that are
     over the last one tells all: what is missing for a year, the years before it are missing, too."""
-    head, over = day.head, None
+    head = day.head
     first, last = head.periods[head.current - 1]
+    over: int | None = None
     for year in range(first, min(last, head.date.year - 1) + 1):
         named = dates.surrender_of(year), dates.emissions_of(year)
         surrender, emissions = (date if date and date >= head.date else None for date in named)
