@@ -109,13 +109,13 @@ def look(served: Served) -> Any:
         of_upload=[("place", place), ("dates", dates), *typed.items(),
                    *(("again", f"{file}:{line}") for file, line in again)],
         counts=[(i.name, f"{handed.NAMES[i.kind]} {i.count}") for i in own.added.parts] if own.added else [],
-        rows=[(own.place, own.words, *proposal(served, own), own.said(), own) for own in first_of(own.looked)],
+        rows=[(own.place, own.words, *proposal(served, own), own.said(), own) for own in refused_first(own.looked)],
         outcomes=trial.counts_of(own.looked),
         shown_row=lambda row: (*row[:4], outcome(row[5])), names=[path.name for path in paths],
     )  # fmt: skip
 
 
-def first_of(looked: list[Looked]) -> list[Looked]:
+def refused_first(looked: list[Looked]) -> list[Looked]:
     """What would come of instructions: of more than a page shows, those first that would be refused."""
     return looked if len(looked) <= ROWS else sorted(looked, key=lambda tried: not tried.is_refused)
 
