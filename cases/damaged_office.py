@@ -273,6 +273,26 @@ def audited_trials(work: Path) -> Iterator[Trial]:
         yield f"audit of {content}", told(1, [f"{name}: SHA-256: found", told_so, ": 2 differences"], "audit", *own)
         path.write_bytes(before)
     yield "audit of what it was", told(0, [": 0 differences"], "audit", *own)
+    yield from advice_trials(work)
+
+
+def advice_trials(work: Path) -> Iterator[Trial]:
+    """What comes of a file that was changed, or of the journal, sends nobody to undo days: that is put right first."""
+    for name, old, new, advice in (
+        ("days/2025-03-31/report.csv.gz", b"account,2,trading,12,open,no,no,0,", b"account,2,trading,12,open,no,no,0,1",
+         "mend the files of 2025-03-31 first, and audit again"),
+        ("journal.csv", f"{DAY},".encode(), b"2025-03-30,", "mend the journal first, and audit again"),
+    ):  # fmt: skip
+        office, own = two_days(work, f"advice of {Path(name).name}")
+        must_do([*CLOSE, "2025-04-02", *own])
+        path = office / name
+        content = path.read_bytes()
+        plain = gzip.decompress(content) if path.suffix == ".gz" else content
+        changed = plain.replace(old, new, 1)
+        path.write_bytes(gzip.compress(changed, mtime=0) if path.suffix == ".gz" else changed)
+        said = Said("audit", *own)
+        wrong = [line for line in said.output.splitlines() if "./day undo" in line]
+        yield f"what to do behind a changed {name}", wrong or (None if advice in said.output else said)
 
 
 def missing_trials(work: Path) -> Iterator[Trial]:

@@ -29,6 +29,12 @@ LOOKED_AT = (
     "/send",
 )  # fmt: skip
 WIDTHS = (1280, 320)
+# Where rows are stacked although there is room; and the numbers that then stand far from the names of their columns.
+BETWEEN = 768
+FAR = (
+    "[...document.querySelectorAll('td.n')].filter(it => getComputedStyle(it).display == 'block'"
+    " && it.getBoundingClientRect().width > 400).length"
+)
 ARRIVED = (
     "document.readyState == 'complete' && document.body && !document.body.dataset.old"
     " && document.querySelector('footer') && !document.body.innerText.includes('At work')"
@@ -245,8 +251,13 @@ def told(text: str, words: str) -> object:
 
 
 def looks(ana: Visitor) -> Iterator[tuple[str, object]]:
-    """Each page in two widths, light and dark, and on paper."""
+    """Each page in two widths, light and dark, and on paper, with something that was handed in."""
     SAVED.mkdir(parents=True, exist_ok=True)
+    ana.open("/hand-in?act=assess")
+    for name, word in (("proposer", "901"), ("approver", "902"), ("account", "100377"), ("year", "2024")):
+        ana.fill(name, word)
+    ana.press("Look at the instruction")
+    yield "an instruction that is typed", told(ana.press("Yes, hand it in"), "handed in:")
     for path in LOOKED_AT:
         name = re.sub(r"\W+", "-", path).strip("-") or "today"
         for width in WIDTHS:
@@ -255,6 +266,10 @@ def looks(ana: Visitor) -> Iterator[tuple[str, object]]:
         (SAVED / f"{name}.pdf").write_bytes(paper)
         yield f"{path} on paper", on_paper(ana)
         yield f"{path} is printed on A4", None if re.search(rb"/MediaBox \[0 0 59[45]", paper) else "it is not"
+    for path in ("/compliance", "/accounts/100377?history=1"):
+        ana.open(path, BETWEEN)
+        far = ana.browser.value(FAR)
+        yield f"{path}, {BETWEEN} wide: numbers are beside their names", f"{far} are far away" if far else None
 
 
 def on_paper(ana: Visitor) -> object:
@@ -265,10 +280,11 @@ def on_paper(ana: Visitor) -> object:
         ".filter(it => !it.closest('details') && !it.checkVisibility()).length"
     )
     left = ana.browser.value(
-        "[...document.querySelectorAll('button, input, nav, .button')].filter(it => it.checkVisibility()).length"
+        "[...document.querySelectorAll('button, input, nav, .button, label:not(.check)')]"
+        ".filter(it => it.checkVisibility()).length"
     )
     ana.browser.do("Emulation.setEmulatedMedia", media="")
-    return f"{hidden} tables or paragraphs are hidden, {left} buttons are not" if hidden or left else None
+    return f"{hidden} tables or paragraphs are hidden, {left} buttons or labels are not" if hidden or left else None
 
 
 def shown(ana: Visitor, path: str, width: int, name: str) -> object:

@@ -82,6 +82,8 @@ def named_trials(work: Path) -> Iterator[Told]:
         (desk.office / LABELS).write_text(f"holder,5501,{name}\naccount,100210,{name} 1\n")
         wrong = has(ana.get(path), name)
         yield f"a name on {path}", wrong if name not in before.text else "it was there before"
+    offered = ana.get("/hand-in?act=transfer")
+    yield "an account is offered by its name", has(offered, "<li>100210: Glas 1, operator of Glas")
 
 
 def year_trials(work: Path) -> Iterator[Told]:

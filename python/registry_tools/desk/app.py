@@ -121,7 +121,7 @@ def dress(app: flask.Flask, served: Served) -> None:
         sections=sections, is_look=served.is_look, of_looking=OF_LOOKING, office=served.path.name,
         token=lambda: flask.session["token"], once=lambda: secrets.token_hex(8), state=lambda: flask.g.state,
         who=lambda: gate.known_name(served), says_name=not served.who and not served.header,
-        has_leftovers=served.reading.has_leftovers, apart=beside.apart,
+        may_not=lambda: gate.may_not(served), has_leftovers=served.reading.has_leftovers, apart=beside.apart,
         table=shown.sorted_table, acts=faults.ACT_WORDS, meaning=lambda name: checks()[name].meaning,
     )  # fmt: skip
     app.jinja_env.filters.update(

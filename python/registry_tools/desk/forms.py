@@ -10,6 +10,7 @@ from typing import Iterable, Iterator, Mapping, Sequence
 from registry_tools.desk.reading import Reading
 from registry_tools.desk.words import LAGS, label
 from registry_tools.errors import WordsFault
+from registry_tools.office.labels import ACCOUNT, Labels
 from registry_tools.pages.beside import called
 from registry_tools.second import faults, rules
 from registry_tools.sheets import columns as sheets
@@ -51,13 +52,16 @@ class Field:
 
 def accounts_offered(own: Reading) -> list[tuple[int, str]]:
     """The numbers of accounts with what somebody knows them by, and what they hold."""
-    settled, holder = own.settled(), own.names().holder
+    settled, names = own.settled(), own.names()
     blocks = itertools.islice(settled.report.book.values() if settled else [], MOST_OFFERED)
     rows = (block.rows[0].split(",") for block in blocks)
-    return [
-        (int(row[1]), f"{row[2]} of {holder(row[3])}, {row[4]}: general {grouped(row[8])}, aviation {grouped(row[9])}")
-        for row in rows
-    ]
+    return [(int(row[1]), account_offered(row, names)) for row in rows]
+
+
+def account_offered(row: Sequence[str], names: Labels) -> str:
+    """What somebody knows an account by, and what it holds, by the fields of its row."""
+    kinds = f"{row[2]} of {names.holder(row[3])}, {row[4]}: general {grouped(row[8])}, aviation {grouped(row[9])}"
+    return ", ".join(filter(None, [names.name_of(ACCOUNT, row[1]), kinds]))
 
 
 RIGHT_OF_NEW = Field("new_right", "who may", "both", RIGHTS)
@@ -96,8 +100,10 @@ def rows_of_instruction(said: Said) -> bytes:
         raise WordsFault("no act was chosen")
     columns = [*sheets.PROPOSAL, *sheets.columns_of_act(act)]
     cells = {name: said.get(name, "").strip() for name in columns}
-    if cells["proposed"] == OTHER:
-        cells["proposed"] = said.get("other_day", "").strip()
+    # (a day that was typed counts, whatever stands in the list above it)
+    other_day = said.get("other_day", "").strip()
+    if other_day or cells["proposed"] == OTHER:
+        cells["proposed"] = other_day
     filled = [name for name in columns if cells[name] or name in sheets.PROPOSAL]
     stream = io.StringIO()
     csv.writer(stream, lineterminator="\n").writerows([filled, [cells[name] for name in filled]])

@@ -12,7 +12,7 @@ from werkzeug.wrappers import Response
 from registry_tools.desk.jobs import Jobs
 from registry_tools.desk.reading import Reading
 from registry_tools.desk.shown import show_page
-from registry_tools.errors import WordsFault
+from registry_tools.errors import FileFault, WordsFault
 from registry_tools.office import people
 from registry_tools.office.words import one_line
 
@@ -26,6 +26,12 @@ HEADERS = {
     "Cross-Origin-Resource-Policy": "same-origin",
 }  # fmt: skip
 LONGEST_NAME = 80
+NO_DAY = "No day is settled yet: Today leads to the first one."
+# The command of each page that asks for a yes.
+COMMANDS = {
+    "/hand-in": "hand-in", "/change": "change", "/names": "label", "/close": "close", "/undo": "undo",
+    "/release": "release",
+}  # fmt: skip
 
 
 class Served:
@@ -105,6 +111,22 @@ def speaks_for(served: Served, who: str) -> list[str]:
     own = served.reading.office().people.named.get(people.system_login())
     is_let = served.header is not None and own is not None and people.PROXY in own.rights
     return [f"--for={who}"] if is_let else []
+
+
+def may_not(served: Served) -> str:
+    """Why who is known here may not give the command of this page, before it is filled in; nothing, if they may."""
+    command, who = COMMANDS.get(flask.request.path), known_name(served)
+    if command is None or not who or served.is_look:
+        return ""
+    try:
+        login = f"{people.system_login()}:{who}" if speaks_for(served, who) else people.system_login()
+        people.must_be_allowed(served.reading.office().people, login, command)
+    except WordsFault as fault:
+        return str(fault).partition(": nothing was done")[0]
+    except (FileFault, OSError):
+        # (the page says by itself what is wrong with the folder)
+        return ""
+    return ""
 
 
 def name(served: Served) -> str:

@@ -19,6 +19,7 @@ from typing import Callable, Iterator
 
 from registry_tools.errors import FOUND, WordsFault
 from registry_tools.office.approvals import ASKED_FOR
+from registry_tools.office.words import CAME_LATE
 from registry_tools.progress import ASKED
 from registry_tools.streams import names
 
@@ -76,6 +77,10 @@ class Job:
             return "Done." if not is_audit else "Something was found." if status else "Nothing was found."
         is_asked_for = status == FOUND and any(ASKED_FOR in line for line in self.said("stdout"))
         return "It is asked for, and waits for somebody else." if is_asked_for else NOTHING
+
+    def came_late(self) -> bool:
+        """Whether it did nothing, since somebody else was quicker: what was typed for it may still be wanted."""
+        return self.is_fault() and any(CAME_LATE in line for line in self.said("stderr"))
 
     def is_fault(self) -> bool:
         """Whether it ended without doing what it was asked for."""

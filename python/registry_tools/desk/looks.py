@@ -19,6 +19,7 @@ from registry_tools.office.incoming import Forms
 from registry_tools.office.journal import Event
 from registry_tools.options import TellingWords
 from registry_tools.pages.beside import item_in_words
+from registry_tools.sheets.importing import OTHER_FORM
 from registry_tools.texts.in_words import instruction_in_words
 from registry_tools.texts.pending import read_waits
 
@@ -70,7 +71,15 @@ def look_at_incoming(own: Reading, paths: list[Path], again: list[tuple[int, int
         place = [*map(str, paths)].index(str(fault.path))
         return Look([str(fault).partition("; --again")[0]], (place, fault.at))
     except (FileFault, WordsFault) as fault:
-        return Look(CELL_TYPED.sub(lambda found: label(found[1]), str(fault)).split("\n"))
+        return Look(faults_in_words(str(fault)))
+
+
+def faults_in_words(told: str) -> list[str]:
+    """What is wrong, a line each. Of an instruction that was typed with the labels of its fields, and without what is
+    said of files."""
+    own = CELL_TYPED.sub(lambda found: label(found[1]), told)
+    lines = own.split("\n")
+    return lines if own == told else [line.replace(f"; {OTHER_FORM}", "") for line in lines if "cells that" not in line]
 
 
 def look_at_change(own: Reading, asked: list[str]) -> change.Difference:

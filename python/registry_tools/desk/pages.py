@@ -34,7 +34,7 @@ from registry_tools.texts.in_words import grouped, instruction_in_words
 
 DAYS = ["Day", "Who", "At", "Records", "Settled by", "Released"]
 TAKEN = ["Place", "What", "Who took it back", "At", "Why"]
-HANDED_IN = ["Place", "What", "File or reason", "Who"]
+HANDED_IN, FILES = ["Place", "What", "File or reason", "Who"], ["File or reason", "What", "Who", "At"]
 WAITING = ["Due", "Record", "Instruction"]
 # What there are empty tables of; and how the last day of a year may be written in a spreadsheet.
 EMPTY = [own for own in form.WHAT if own != form.LABELS]
@@ -124,11 +124,12 @@ def box(served: Served, place: int) -> object:
 
 
 def change(served: Served) -> Any:
-    """The form of an account, of the rules, or of a new account. Raises WordsFault if there is no such account."""
+    """The form of an account, of the rules, or of a new account, once a day is settled. Raises WordsFault if there is
+    no such account."""
     number, own = number_asked("account"), served.reading
     of = asked("of") if asked("of") in ("rules", "new") and number is None else "account"
     if own.office().last() is None:
-        raise WordsFault("no day is settled yet: another first text stands in place of a change")
+        return gate.said(400, f"{gate.NO_DAY} Until then another first text, by ./day init, is in place of a change.")
     day = own.text_of_next()
     if number is not None and number not in day.book:
         raise WordsFault(f"there is no account {number} in the next day's text")
@@ -221,7 +222,7 @@ def release(served: Served) -> Any:
         "yes", f"Release {said}", lead=f"{said} is not released yet. If it is, so are all days before it.",
         told=[paragraph(RELEASED), sorted_table("Released then", DAYS[:5], [row[:5] for row in touched], ["Records"])],
         action="/release/yes", button=f"Yes, release {said}", no="/days", doubt=doubt and f"it {doubt}",
-        fields=[("day", day.date)], choices=[row[0] for row in rows], chosen=("day", day.date),
+        fields=[("day", day.date)], choices=[date_of("the day", row[0]) for row in rows], chosen=("day", day.date),
         words="Up to which day",
     )  # fmt: skip
 
@@ -254,12 +255,15 @@ def parts_of(settled: Settled, own: Reading) -> Iterator[Markup]:
         (book.check_link(code), len(logged), book.words(book.checks[code].advice))
         for code, logged in settled.refused().items()
     ]
-    gone = [*map(row_of_taken, taken.of_day(own.office(), settled.head.date))]
+    office, event = own.office(), own.office().journal.day_of(settled.head.date)
+    gone = [*map(row_of_taken, taken.of_day(office, settled.head.date))]
+    files = [*awaited.files_of(office, event)] if event else []
     yield summary.lead(settled)
     if settled.log:
         yield summary.acts_table(settled)
     yield sorted_table("Refused", ["Check", "How many", "What to do"], refused, ["How many"], name="why-")
     yield sorted_table("Waiting", summary.WAITING_COLUMNS, summary.waiting_rows(settled), name="waits-")
+    yield sorted_table("Handed in before", FILES, files, name="files-")
     yield sorted_table("Taken back before", TAKEN, gone, ["Place"], name="taken-")
     yield from (*summary.totals_parts(settled), tag("h2", "Changed by hand"))
     by_hand = own.by_hand(settled.head.date)

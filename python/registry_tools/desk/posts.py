@@ -6,23 +6,25 @@ import flask
 
 from registry_tools.desk import forms, gate, looks
 from registry_tools.desk.gate import Served
-from registry_tools.desk.shown import address_of, outcome, show_page, sorted_table
+from registry_tools.desk.shown import ROWS, address_of, outcome, show_page, sorted_table
 from registry_tools.errors import WordsFault
-from registry_tools.office import handed
+from registry_tools.office import handed, trial
 from registry_tools.office.people import MAY_WAIT
-from registry_tools.office.trial import whys
+from registry_tools.office.trial import Looked, whys
 from registry_tools.office.words import one_line
 from registry_tools.options import word_of
 from registry_tools.pages.beside import BESIDE, side_by_side
 
 ONCE, STATE = re.compile("[0-9a-f]{16}"), re.compile("[0-9a-f]{64}[.][0-9]{1,9}[.][0-9]{1,9}[.][0-9a-f]{16}")
 PLACE, AGAIN = re.compile("[1-9][0-9]{0,8}"), re.compile("([0-9]{1,3}):([1-9][0-9]{0,8})")
+# What may stand between numbers.
+BETWEEN = re.compile(r"[\s,;]+")
 NOT_WHOLE = "the form is not whole: nothing was done"
 # Of a field that was typed so much is kept in the way back to it.
 LONGEST_FIELD = 200
 # The words of a form that its page makes; those that are no fields of what it asks for; and forms of no own page.
 OF_PAGE = {"token", "once", "state"}
-OF_FORM = OF_PAGE | {"who", "why"}
+OF_FORM, OF_UPLOAD = OF_PAGE | {"who", "why"}, {"place", "again", "dates"}
 OF_TODAY = {"/approve", "/put-right"}
 
 
@@ -41,7 +43,8 @@ def once() -> str:
 def way_back() -> str:
     """The address of the form that was sent, with what was typed."""
     path = "/" if flask.request.path in OF_TODAY else "/" + flask.request.path.split("/")[1]
-    typed = {name: own for name, own in flask.request.form.to_dict(flat=False).items() if name not in OF_PAGE}
+    said = flask.request.form.to_dict(flat=False)
+    typed = {name: own for name, own in said.items() if name not in OF_PAGE | OF_UPLOAD or name == "dates" and any(own)}
     return address_of(path, {name: [word[:LONGEST_FIELD] for word in words] for name, words in typed.items()})
 
 
@@ -86,9 +89,10 @@ def look(served: Served) -> Any:
     """Shows what would come of files or an instruction, and leads back to what was typed. WordsFault if it is none."""
     place, typed = form("place") or uploaded(served), {}
     if form("act"):
+        typed = {name: form(name)[:LONGEST_FIELD] for name in flask.request.form if name not in OF_FORM | OF_UPLOAD}
+    if typed and not form("place"):
         rows = forms.rows_of_instruction(flask.request.form)
         served.jobs.place_for(served.jobs.private / place, looks.TYPED).write_bytes(rows)
-        typed = {name: form(name)[:LONGEST_FIELD] for name in flask.request.form if name not in OF_FORM}
     paths, reading, dates = served.jobs.upload(place), served.reading, form("dates")
     if not paths:
         raise WordsFault("no file was chosen")
@@ -98,13 +102,28 @@ def look(served: Served) -> Any:
         served.jobs.forget_upload(place)
     if own.meant:
         again.append(own.meant)
+    back = f"{address_of('/hand-in', {**typed})}#one" if typed else address_of("/hand-in", {"dates": dates or None})
     return show_page(
-        "look", "A look before it is handed in", own=own, whys=whys(own.looked), back=address_of("/hand-in", {**typed}),
-        of_upload=[("place", place), ("dates", dates), *(("again", f"{file}:{line}") for file, line in again)],
+        "look", "A look before it is handed in", own=own, whys=whys(own.looked), back=back, is_typed=bool(typed),
+        # (an instruction that was typed goes with its file, so that it can be led back to)
+        of_upload=[("place", place), ("dates", dates), *typed.items(),
+                   *(("again", f"{file}:{line}") for file, line in again)],
         counts=[(i.name, f"{handed.NAMES[i.kind]} {i.count}") for i in own.added.parts] if own.added else [],
-        rows=[(tried.place, tried.words, tried.said(), tried) for tried in own.looked],
-        shown_row=lambda row: (row[0], row[1], outcome(row[3])), names=[path.name for path in paths],
+        rows=[(own.place, own.words, *proposal(served, own), own.said(), own) for own in refused_first(own.looked)],
+        outcomes=trial.counts_of(own.looked),
+        shown_row=lambda row: (*row[:4], outcome(row[5])), names=[path.name for path in paths],
     )  # fmt: skip
+
+
+def refused_first(looked: list[Looked]) -> list[Looked]:
+    """What would come of instructions: of more than a page shows, those first that would be refused."""
+    return looked if len(looked) <= ROWS else sorted(looked, key=lambda tried: not tried.is_refused)
+
+
+def proposal(served: Served, tried: Looked) -> tuple[str, str]:
+    """When an instruction was proposed, and by whom it was and was approved."""
+    _, proposed, *users = tried.do_row.split(",")[:4]
+    return proposed, ", ".join(map(served.reading.names().user, filter(None, users)))
 
 
 def meant_again(count: int) -> list[tuple[int, int]]:
@@ -140,7 +159,7 @@ def look_at_change(served: Served) -> Any:
     return show_page(
         "yes", "A look before it is changed", fields=fields_of_form(), notes=own.notes,
         lead=f"Nothing is changed yet. For {own.after.head.date} this would be:", action="/change/make",
-        told=[sorted_table("Before and after", BESIDE, side_by_side(own.rows()))], no="/change",
+        told=[sorted_table("Before and after", BESIDE, side_by_side(own.rows()))], no=way_back(),
         button="Yes, change it",
     )  # fmt: skip
 
@@ -162,7 +181,7 @@ def look_at_names(served: Served) -> Any:
     return show_page(
         "yes", "A look before it is named", lead="Nothing is named yet. This would be:", notes=doubts,
         told=[sorted_table("Before and after", BESIDE, rows)], action="/names/give", button="Yes, name it so",
-        fields=[("place", place)] if place else fields_of_form(), no="/names",
+        fields=[("place", place)] if place else fields_of_form(), no=way_back(),
     )  # fmt: skip
 
 
@@ -215,9 +234,10 @@ def audit(served: Served) -> Any:
 
 def send(served: Served) -> Any:
     """Has packages made, for one download. Raises WordsFault if the words of the form are none of the command."""
-    holders = form("holders").split()
-    if not all(map(PLACE.fullmatch, holders)):
-        raise WordsFault("holders: numbers with blanks between them")
+    holders = BETWEEN.split(form("holders")) if form("holders") else []
+    for holder in holders:
+        if not PLACE.fullmatch(holder):
+            raise WordsFault(f"holders: found {holder!r}; expected numbers with blanks between them")
     own = [*(f"--{name}={form(name)}" for name in ("from", "day") if form(name))]
     own += ["--holder", *holders] if holders else []
     if not form("release"):

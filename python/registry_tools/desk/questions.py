@@ -12,6 +12,7 @@ from werkzeug.wrappers import Response
 
 from registry_tools.calendars.dates import date_of
 from registry_tools.calendars.due_days import NOT_DUE
+from registry_tools.desk import gate
 from registry_tools.desk.gate import Served
 from registry_tools.desk.reading import Reading
 from registry_tools.desk.shown import TYPED, asked, number_asked, row_of_taken, show_page
@@ -99,10 +100,10 @@ def names(served: Served) -> Any:
 
 
 def compliance(served: Served) -> Any:
-    """The page of compliance for a year. Raises WordsFault if no day is settled."""
+    """The page of compliance for a year, once a day is settled."""
     own, settled = served.reading, served.reading.settled()
     if settled is None:
-        raise WordsFault("no day is settled yet")
+        return gate.said(400, gate.NO_DAY)
     year, word = number_asked("year") or answers.last_year_over(settled.head), asked("deadline")
     office, standings = own.office(), answers.standings(settled.day, settled.report, year)
     deadline = date_of("the deadline", word) if word else office.settings.due.surrender_of(year)
@@ -131,7 +132,7 @@ def month_page(served: Served) -> Any:
     """Several days on one page, as ./day month makes it."""
     last = served.reading.office().last()
     if last is None:
-        raise WordsFault("no day is settled yet")
+        return gate.said(400, gate.NO_DAY)
     # (without a word, the month of the last day)
     begin, end = asked("from") or str(last.date.replace(day=1)), asked("to") or str(last.date)
     asked_for = {"year": number_asked("year"), "deadline": asked("deadline") or None}
@@ -241,7 +242,7 @@ def job(served: Served, number: str) -> Any:
     if there is None:
         raise WordsFault("the desk knows nothing of this any more: Today and the journal say what was done")
     date = next((word.partition("=")[2] for word in there.words if word.startswith("--date=")), "")
-    leads = BEHIND.get(there.command, ("/", "Today"))
+    leads = ("/", "Today") if there.is_fault() else BEHIND.get(there.command, ("/", "Today"))
     if there.status == 0 and there.command == "close":
         leads = (f"/days/{date}", "To the day")
     if there.status == 0 and there.made():

@@ -17,6 +17,8 @@ from registry_tools.pages.html import Markup, Table, joined, link, paragraph, so
 # The word of an address that only fills the form of a page with what was typed.
 TYPED = "typed"
 NUMBER = re.compile("[1-9][0-9]{0,8}", re.ASCII)
+# What is expected of a number.
+EXPECTED = {"account": "the number of an account", "year": "a year, as 2024"}
 # How many rows of a table a page shows, and how many pages are named beside it.
 ROWS, NEAR = 100, 4
 
@@ -40,7 +42,7 @@ def number_asked(name: str) -> int | None:
     """The number that a word of the address says, if it is there. Raises WordsFault if it is none."""
     word = asked(name)
     if word and not NUMBER.fullmatch(word):
-        raise WordsFault(f"{name}: {word!r} is no number of an account, a user or a year")
+        raise WordsFault(f"{name}: found {word!r}; expected {EXPECTED[name]}")
     return int(word) if word else None
 
 

@@ -29,7 +29,8 @@ AT_THE_DESK = {
     EMPTY_TABLE: "the page Hand in has empty tables", OTHER_HEADINGS: "the page Hand in has empty tables",
     MORE_WORK: "add working days (Change, the rules)", "--release releases it": "its box on the page Send releases it",
     "nothing to change: ./day change --help tells what can be": "nothing to change: the form says what is there",
-    "is in next again": "is handed in again",
+    "is in next again": "is handed in again", "; nothing was handed in": "",
+    "give the command again": "ask for it again, by its page", "--period FIRST-LAST adds": "One more period adds",
     "settled by no proved engine, as far as the journal says": "days for which the journal names no proved engine",
 }  # fmt: skip
 PAGES = {
@@ -40,7 +41,9 @@ PAGES = {
 }  # fmt: skip
 OPTIONS = {"date": "the day", "day": "the day", "from": "the first day", "to": "the last day", "who": "your name",
            "second": "by the second answer", "yes": "a yes"}  # fmt: skip
-COMMAND = re.compile(r"\./day ([a-z-]+)\b( of )?(?: [0-9][0-9-]*)?(?: --help)?")
+COMMAND = re.compile(
+    r"\./day ([a-z-]+)\b( of )?(?:(?: [a-z-]+)? --date [0-9][0-9-]*| [0-9][0-9-]*)?(?: --(?:help|yes)\b)?"
+)
 OPTION = re.compile(r"(?<![-\w])--([a-z]+(?:-[a-z]+)*)\b")
 AMOUNT = re.compile("a number from [01] to 18446744073709551615, in plain digits")
 DOCUMENT = re.compile(r"(?:docs/)?(RULES|FORMATS)\.md(#[a-z0-9-]+)?")

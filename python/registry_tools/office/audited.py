@@ -33,8 +33,13 @@ class Audit:
     away: str = AWAY
 
     def mending(self, date: datetime.date) -> str:
-        """How a difference of a day is mended: first its files, if they are not as they were filed."""
-        return FILES_FIRST if date in self.changed else SETTLE_AGAIN
+        """How a difference of a day is mended: first the journal or files, if they are not as they were filed."""
+        if self.away == JOURNAL_FIRST:
+            return JOURNAL_FIRST
+        before = [own for own in self.changed if own < date]
+        if date in self.changed or not before:
+            return FILES_FIRST if date in self.changed else SETTLE_AGAIN
+        return f"mend the files of {max(before)} first, and audit again"
 
     def add(self, *faults: FileFault | None, mend: str = "") -> None:
         """Adds what was found, and how it is mended, each once: a file that lacks is missed by each that reads it."""

@@ -1,16 +1,28 @@
 """What waits for another login, in words."""
 from typing import Iterator, NamedTuple
 
-from registry_tools.office import handed, people
+from registry_tools.office import handed, handed_journal, past, people
 from registry_tools.office.approvals import COMMAND_OF, Office, all_asked, approvers, second_for, waits, way
 from registry_tools.office.handed import HandedIn, Part
+from registry_tools.office.journal import Event
+
+
+FIRST_TEXT = "the first text, with instructions"
 
 
 class Waits(NamedTuple):
-    """Something that waits for another login, in words; and the words of ./day approve, if it is not approved yet."""
+    """Something that waits for another login, in words; what that is, what to do, and the words of ./day approve, if
+    it is not approved yet."""
 
-    line: str
+    said: str
+    what: str
+    way: str
     words: tuple[str, ...]
+
+    @property
+    def line(self) -> str:
+        """All of it, for who gives commands."""
+        return f"{self.said}: {self.way}"
 
 
 def all_waiting(office: Office, handed_in: HandedIn) -> Iterator[Waits]:
@@ -19,16 +31,16 @@ def all_waiting(office: Office, handed_in: HandedIn) -> Iterator[Waits]:
         command, place = COMMAND_OF[part.kind], str(part.start)
         where, by = handed.places(part.start, part.end), who_did(office, part.who, part.login)
         second = second_for(office, command, part.login)
-        yield Waits(f"{where}, {command} by {by}, waits for {second}: ./day approve {place}", (place,))
+        yield Waits(f"{where}, {command} by {by}, waits for {second}", where, f"./day approve {place}", (place,))
     for asked in all_asked(office):
         own, others = who_did(office, asked.who, asked.login), approvers(office, asked)
         if others:
-            line = f"{asked}, asked for by {own}, is approved by {', '.join(others)}: give the command again"
-            yield Waits(line, ())
+            by = ", ".join(map(office.people.in_words, others))
+            yield Waits(f"{asked}, asked for by {own}, is approved by {by}", str(asked), "give the command again", ())
         else:
             second = second_for(office, asked.command, asked.login)
-            line = f"{asked}, asked for by {own}, waits for {second}: {way(asked)}"
-            yield Waits(line, (asked.command, asked.date))
+            line, words = f"{asked}, asked for by {own}, waits for {second}", (asked.command, asked.date)
+            yield Waits(line, str(asked), way(asked), words)
 
 
 def told(office: Office, handed_in: HandedIn) -> list[str]:
@@ -42,7 +54,19 @@ def tell_new(office: Office, parts: list[Part]) -> None:
         command = COMMAND_OF[part.kind]
         if waits(office, command):
             who, where = second_for(office, command, office.login), handed.places(part.start, part.end)
-            print(f"{where} waits for {who}, and does not count before: ./day approve {part.start}")
+            wait, does = ("waits", "does") if part.end == part.start + 1 else ("wait", "do")
+            print(f"{where} {wait} for {who}, and {does} not count before: ./day approve {part.start}")
+
+
+def files_of(office: Office, event: Event) -> Iterator[tuple[str, str, str, str]]:
+    """The files that were handed in for a settled day: the name, what is left of it, who did so, and when. Raises
+    FileFault if the journal of them was changed."""
+    filed = handed_journal.read_journal(past.as_filed(office, event, "handed"))
+    seconds = {own.place: own.login for own in filed.approved}
+    for part in filed.parts:
+        left, who = len(filed.left_of(part)), who_and_second(office, part.who, part.login, seconds.get(part.start, ""))
+        of = "" if left == part.count else f" of {part.count}"
+        yield part.name, f"{handed.NAMES.get(part.kind, FIRST_TEXT)} {left}{of}", who, part.at
 
 
 def who_did(office: Office, who: str, login: str) -> str:

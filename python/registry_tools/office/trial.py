@@ -110,11 +110,15 @@ def tell(looked: list[Looked], next_day: NextDay, places: set[int] | None = None
     if any(tried.outcome != "done" for tried in shown):
         print("\n".join(table_of([tried for tried in shown if tried.outcome != "done"])))
     print("".join(f"{name}: {said}\n" for name, said in whys(shown).items()), end="")
-    done, waiting = sum(tried.outcome == "done" for tried in shown), sum(tried.waits for tried in shown)
-    counts = f"done {done}, waiting {waiting}, refused {len(refused)}"
     if shown or places is None:
-        print(f"{'' if places is None else 'of these, '}as it stands, on {next_day.date}: {counts}")
+        print(f"{'' if places is None else 'of these, '}as it stands, on {next_day.date}: {counts_of(shown)}")
     return FOUND if refused else 0
+
+
+def counts_of(looked: list[Looked]) -> str:
+    """How many would be done, wait and be refused, in words."""
+    done, waiting = sum(tried.outcome == "done" for tried in looked), sum(tried.waits for tried in looked)
+    return f"done {done}, waiting {waiting}, refused {sum(tried.is_refused for tried in looked)}"
 
 
 def whys(looked: list[Looked]) -> dict[str, str]:

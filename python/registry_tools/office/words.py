@@ -7,6 +7,9 @@ from registry_tools.errors import WordsFault
 from registry_tools.office import folder, lock, people, prepared
 from registry_tools.office.folder import WHERE, Office, user_name
 
+# What somebody is told who looked at the folder before somebody else changed it.
+CAME_LATE = "somebody changed the folder since it was looked at, and nothing was done"
+
 
 def add_office(parser: argparse.ArgumentParser) -> None:
     """The option that names the folder."""
@@ -60,5 +63,5 @@ def changing(said: argparse.Namespace, command: str) -> Iterator[Office]:
         people.must_be_allowed(office.people, office.login, command)
         if said.seen is not None and said.seen != folder.state_of(office):
             since = "; ".join(folder.done_since(office, said.seen)) or "another first text stands there"
-            raise WordsFault(f"somebody changed the folder since it was looked at, and nothing was done: {since}")
+            raise WordsFault(f"{CAME_LATE}: {since}")
         yield office

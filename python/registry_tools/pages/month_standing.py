@@ -68,11 +68,11 @@ def compliance_facts(rows: list[Standing], year: int) -> Markup:
     known = [row for row in rows if not row.years_without_emissions]
     return facts([
         ("Year", year),
-        ("Operators", len(rows)),
-        ("Compliant", f"{count[COMPLIANT]} of {len(rows)}"),
+        ("Operators", grouped(len(rows))),
+        ("Compliant", f"{grouped(count[COMPLIANT])} of {grouped(len(rows))}"),
         ("Missing allowances", f"{grouped(missing)}, of {count_of(debtors, 'operator', 'operators')}"),
-        ("Without emissions of some year", count[NO_EMISSIONS]),
-        *((verdict.capitalize(), count[verdict]) for verdict in VERDICTS if count[verdict] and verdict not in told),
+        ("Without emissions of some year", grouped(count[NO_EMISSIONS])),
+        *((word.capitalize(), grouped(count[word])) for word in VERDICTS if count[word] and word not in told),
         ("Surrendered", f"{grouped(sum(row.surrendered for row in known))}, by those whose emissions are known"),
         ("Emissions", f"{grouped(sum(row.emissions for row in known))}, of the same"),
     ])  # fmt: skip
@@ -86,10 +86,11 @@ def missing_of(standing: Standing) -> str:
 
 
 def until_in_words(last: datetime.date, deadline: datetime.date | None) -> str:
-    """The deadline, and how far it is from the last day."""
+    """The deadline, and how far it is from the last day: whoever reads it later, or behind a weekend, has another
+    today."""
     if deadline is None:
         return "no deadline is named"
     days = (deadline - last).days
     if days < 0:
         return f"{deadline}, which is over"
-    return f"{deadline}, in {count_of(days, 'day', 'days')}" if days else f"{deadline}, today"
+    return f"{deadline}, {count_of(days, 'day', 'days')} after {last}" if days else f"{deadline}, the last day itself"

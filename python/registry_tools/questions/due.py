@@ -1,7 +1,8 @@
-"""Shows what is due from the last settled day on, up to DATE, in the order of the dates:
+"""Shows what is due from the last settled day on, up to DATE, and what is overdue, in the order of the dates:
 
   deadline          by when an operator has to have surrendered what is missing for a year, or by when its emissions
                     of a year have to be entered
+  overdue           a deadline that is over, if the operator still has not done that
   reversal ends     the last day on which a surrender or a deletion may still be reversed
   list takes effect when an account that was added to a trusted list may be used
   waiting           when an instruction that waits is due
@@ -41,7 +42,7 @@ from registry_tools.texts.report import Report
 
 EXAMPLE = "./day due --until 2025-10-31 --office out/office"
 COLUMNS = tables.COLUMNS["due"]
-DEADLINE, REVERSAL, LIST = "deadline", "reversal ends", "list takes effect"
+DEADLINE, OVERDUE, REVERSAL, LIST = "deadline", "overdue", "reversal ends", "list takes effect"
 WAITING, MISSED, CALENDAR = "waiting", "working day", "calendar ends"
 NO_MORE = "no working day behind it: hand in more by ./day hand-in"
 # A year has deadlines in the next one: so those of these years, counted back from the last day, may still come.
@@ -106,22 +107,29 @@ def due_until(office: Office, until: datetime.date) -> list[Due]:
 
 
 def deadlines(dates: DueDates, day: DayText, report: Report, names: Labels) -> Iterator[Due]:
-    """By when operators have to do something about each year of the current period that is over."""
+    """By when operators have to do something about each year of the current period that is over. Of deadlines that are
+    over the last one tells all: what is missing for a year, the years before it are missing, too."""
     head = day.head
     first, last = head.periods[head.current - 1]
+    over: int | None = None
     for year in range(first, min(last, head.date.year - 1) + 1):
         named = dates.surrender_of(year), dates.emissions_of(year)
         surrender, emissions = (date if date and date >= head.date else None for date in named)
+        over = over if surrender or emissions or named == (None, None) else year
         if not surrender and not emissions:
             continue
         for standing in standings(day, report, year):
             yield from of_standing(standing, surrender, emissions, names)
+    if over is not None:
+        for standing in standings(day, report, over):
+            late = of_standing(standing, dates.surrender_of(over), dates.emissions_of(over), names)
+            yield from (own._replace(what=OVERDUE) for own in late)
 
 
 def of_standing(
     standing: Standing, surrender: datetime.date | None, emissions: datetime.date | None, names: Labels
 ) -> Iterator[Due]:
-    """What an operator has to do for a year, by the deadlines that are not over. Emissions that lack behind their own
+    """What an operator has to do for a year, by these deadlines. Emissions that lack behind their own
     deadline are due by the one for surrenders: before them nobody knows what is missing."""
     account, year = standing.account, standing.year
     if standing.verdict in SETTLED or account.status == "closed":
