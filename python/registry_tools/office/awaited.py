@@ -1,7 +1,7 @@
 """What waits for another login, in words."""
 from typing import Iterator, NamedTuple
 
-from registry_tools.office import handed, handed_journal, past, people
+from registry_tools.office import folder, handed, handed_journal, past, people
 from registry_tools.office.approvals import COMMAND_OF, Office, all_asked, approvers, second_for, waits, way
 from registry_tools.office.handed import HandedIn, Part
 from registry_tools.office.journal import Event
@@ -58,7 +58,7 @@ def tell_new(office: Office, parts: list[Part]) -> None:
             print(f"{where} {wait} for {who}, and {does} not count before: ./day approve {part.start}")
 
 
-def files_of(office: Office, event: Event) -> Iterator[tuple[str, str, str, str]]:
+def files_of(office: folder.Office, event: Event) -> Iterator[tuple[str, str, str, str]]:
     """The files that were handed in for a settled day: the name, what is left of it, who did so, and when. Raises
     FileFault if the journal of them was changed."""
     filed = handed_journal.read_journal(past.as_filed(office, event, "handed"))
