@@ -4,6 +4,7 @@ cases/run-desk."""
 from __future__ import annotations
 
 import io
+import re
 import sqlite3
 import threading
 import time
@@ -17,7 +18,9 @@ from offices import must_do
 from sample_days import MONDAY_OF_TWO_PERIODS
 
 from registry_tools.desk.jobs import Job, Jobs, Started
+from registry_tools.desk.words import label
 from registry_tools.office.layout import LABELS
+from registry_tools.texts.checks import IN_FORMS
 
 WEEK, RULES = TOP / "examples" / "week", TOP / "tools" / "rules.py"
 MONDAY, TUESDAY, WEDNESDAY = (f"2025-09-{day}" for day in (22, 23, 24))
@@ -31,7 +34,7 @@ def second_look_trials(work: Path) -> Iterator[Told]:
     work.mkdir()
     for trials in (
         changed_trials, named_trials, year_trials, index_trials, found_trials, period_trials, undo_trials,
-        look_only_trials, upload_trials, at_once_trials, said_trials,
+        look_only_trials, upload_trials, at_once_trials, said_trials, reason_trials,
     ):  # fmt: skip
         yield from trials(work / trials.__name__)
 
@@ -213,3 +216,41 @@ def said_trials(work: Path) -> Iterator[Told]:
     (work / "stderr").write_bytes(b"\r\033[Kreading 1/2\r\033[Kreading 2/2\r\033[Knot filed\n\r\033[K")
     job = Job("1", "close", [], work, cast(Started, desks.Done(2)), "", "")
     yield "a line of progress", differs(job.said("stderr"), ["not filed"])
+
+
+# Why an instruction is refused.
+
+# Rows that are refused, with what their reasons and the advice say in the words of the forms.
+REFUSED = (f"do,{TUESDAY},5101,5102,surrender,100210,general,999999999\n"
+           f"do,{TUESDAY},5101,5102,transfer,100210,100210,general,1\n")  # fmt: skip
+REASONS = ("The account that gives holds less than the amount. A distribution: less than the sum of the amounts.",
+           "The account that gives and the account that receives are the same account.")  # fmt: skip
+ADVICE = "Lower the amount, or let the account that gives receive allowances first."
+OF_TEXTS = re.compile(r"\b(FROM|TO|ACCOUNT|OTHER)\b")
+
+
+def reason_trials(work: Path) -> Iterator[Told]:
+    """Reasons and advice are said in the words of the forms, before the yes, behind it and on the pages of the day."""
+    for word, called in IN_FORMS.items():
+        wanted = f"the {label(word.lower()).lower().removeprefix('the ')}"
+        yield f"{word} by the label of its field", differs(called, wanted)
+    desk, own = desk_of(work)
+    ana = desk.person()
+    looked = ana.send("/hand-in", "/hand-in/look", {"rows.csv": REFUSED.encode()})
+    yield "the look before it is handed in", in_forms(looked, *REASONS, ADVICE)
+    yield "it is handed in", in_forms(ana.yes(looked, "/hand-in/take"), *REASONS, ADVICE)
+    yield "the next day", in_forms(ana.get("/next"), *REASONS, ADVICE)
+    commands = Said("try", *own)
+    yield "who gives commands writes texts", None if ": FROM holds less" in commands.output else commands
+    asked = ana.get("/close")
+    yield "the look before it is closed", in_forms(asked, *REASONS)
+    yield "it is closed", in_forms(ana.yes(asked, "/close/settle", second="1", yes="1"), *REASONS)
+    for path in ("/", f"/days/{TUESDAY}", "/accounts/100210", "/month"):
+        yield path, in_forms(ana.get(path), *([ADVICE] if path[:2] in ("/d", "/a") else []))
+    yield "the rules say what they define", has(ana.get("/rules.html"), "FROM holds less than the amount.")
+
+
+def in_forms(answer: desks.Answer, *words: str) -> object:
+    """What is wrong with a page that has to say this, and nothing in the words of texts."""
+    shown = re.sub("<[^>]*>", "", answer.text)
+    return has(answer, *words) or [shown[max(own.start() - 60, 0) : own.end() + 60] for own in OF_TEXTS.finditer(shown)]

@@ -195,7 +195,10 @@ def change_trials(work: Path) -> Iterator[Told]:
     by = f"Anna Berg (anna), as {people.system_login()} says"
     waits = [f"places 1 to 2, change by {by}, waits for Bert Kohl (bert) or Dan Moor (dan): ./day approve 1"]
     yield "status", told(0, [f"for another login: {waits[0]}"], "status", *own)
-    yield "approve shows it", unchanged(office, 0, [*waits, "account,100210,put,HOLDER,5503"], "approve", *own)
+    row = "account,100210,put,HOLDER,5503"
+    becomes = [f"100210: {sign} account,100210,operator,{holder}," for sign, holder in (("-", 5501), ("+", 5503))]
+    becomes.append("100210: + user,5204,approve")
+    yield "approve shows it, and what was there", unchanged(office, 0, [*waits, row, *becomes], "approve", *own)
     yield "try is without it", told(0, ["done 1, waiting 0, refused 0"], "try", *own)
     left = ["LOOK AT THIS: not in this day, and waits for another login: places 1 to 2", "is not filed, without --yes"]
     yield "close tells it", unchanged(office, 1, left, "close", "--date", TUESDAY, *of("eva"), *own)
@@ -208,8 +211,7 @@ def change_trials(work: Path) -> Iterator[Told]:
     yield "approved by the desk itself", unchanged(office, 2, has, "approve", "1", *own)
     for word, says in (("7", "expected a place"), ("x", "expected a place"), ("0", "expected a place")):
         yield f"approve {word}", unchanged(office, 2, [says], "approve", word, *of("bert"), *own)
-    approved = ["approved: places 1 to 2", "account,100210,put,HOLDER,5503"]
-    yield "approved", told(0, approved, "approve", "2", *of("bert"), *own)
+    yield "approved", told(0, ["approved: places 1 to 2", row, *becomes], "approve", "2", *of("bert"), *own)
     yield "approved once more", told(2, ["place 1 was approved by"], "approve", "1", *of("dan"), *own)
     kept = work / "approved"
     shutil.copytree(office, kept)

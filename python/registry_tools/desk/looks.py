@@ -2,6 +2,7 @@
 functions behind the commands, in a copy of next/."""
 import contextlib
 import datetime
+import functools
 import re
 import shutil
 import tempfile
@@ -18,7 +19,7 @@ from registry_tools.office.folder import Office
 from registry_tools.office.incoming import Forms
 from registry_tools.office.journal import Event
 from registry_tools.options import TellingWords
-from registry_tools.pages.beside import item_in_words
+from registry_tools.pages.beside import item_in_words, side_by_side
 from registry_tools.sheets.importing import OTHER_FORM
 from registry_tools.texts.in_words import instruction_in_words
 from registry_tools.texts.pending import read_waits
@@ -91,6 +92,14 @@ def look_at_change(own: Reading, asked: list[str]) -> change.Difference:
         composing.last_day(office)
         made = change.edits_of(said, own.text_of_next().head.lags)
         return change.look_at(there, next_day, office, made, "nobody yet", "no reason yet")
+
+
+def look_at_waiting(own: Reading, office: Office, handed_in: handed.HandedIn, part: handed.Part | None) -> Rows:
+    """What a change that waits for another login makes of the next day: what was there, and what it becomes."""
+    if part is None:
+        return []
+    look = functools.partial(change.look_at_waiting, office, handed_in, part)
+    return [*side_by_side(own.of_next(f"place {part.start}", own.dates()[0], look))]
 
 
 def look_at_undo(own: Reading, last: Event, date: datetime.date) -> tuple[Rows, Rows]:

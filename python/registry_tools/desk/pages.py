@@ -69,7 +69,8 @@ def today(served: Served) -> Any:
         "today", "Today", last=last, is_released=office.journal.is_released(), items=items, waits=waits, came=own.came,
         missed=due.missed_days(office), taken=[*map(row_of_taken, taken.of_next(handed_in))], holder=own.holder(),
         coming=due.next_dates(office, MOST_COMING), faults=[*office.changed_files(last)] if last else [],
-        new=new, seconds=[*awaited.all_waiting(office, handed_in)],
+        new=new, seconds=[(waiting, looks.look_at_waiting(own, office, handed_in, waiting.part))
+                          for waiting in awaited.all_waiting(office, handed_in)],
         forged=approvals.all_approvals(office).faults, dates=own.dates(), doubts=due.doubts_of_last(office),
     )  # fmt: skip
 

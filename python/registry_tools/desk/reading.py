@@ -28,7 +28,7 @@ from registry_tools.pages.rulebook import Rulebook, link_to_check
 from registry_tools.pages.settled import REFUSED, WAITS, ByHand, Settled, by_hand_before
 from registry_tools.pages.statement import Statement
 from registry_tools.questions import find
-from registry_tools.texts.checks import checks
+from registry_tools.texts.checks import checks, form_words
 from registry_tools.texts.day_text import DayText
 from registry_tools.texts.report import LogRow
 
@@ -49,6 +49,14 @@ class DeskSettled(Settled):
     def account_address(self, number: int, root: str = "") -> str:
         """Where the page of an account is."""
         return f"/accounts/{number}"
+
+
+class DeskBook(Rulebook):
+    """The words of the rules as the forms of the desk say them."""
+
+    def words(self, sentence: str, root: str = "") -> str:
+        """A sentence of the tables."""
+        return super().words(form_words(sentence), root)
 
 
 class Reading:
@@ -247,4 +255,4 @@ def read_settled(office: Office, event: Event) -> DeskSettled:
     own = next(past.read_all([past.pair_of(office, event)]))
     earlier = send.waiting_of(str(past.as_filed(office, event, "waiting")), own)
     names = labels.of_folder(office.path)
-    return DeskSettled(own.day, own.report, Rulebook("/"), Frame([]), own.report.book.keys(), earlier, names)
+    return DeskSettled(own.day, own.report, DeskBook("/"), Frame([]), own.report.book.keys(), earlier, names)

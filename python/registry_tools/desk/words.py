@@ -1,5 +1,6 @@
 """How the desk says things to people: fields, times, dates, rows."""
 import datetime
+import functools
 import re
 
 from registry_tools.calendars.working_days import MORE_WORK
@@ -8,6 +9,7 @@ from registry_tools.office.incoming import EMPTY_TABLE
 from registry_tools.pages.html import markup
 from registry_tools.sheets.importing import OTHER_AMOUNTS, OTHER_FORM
 from registry_tools.sheets.table import OTHER_HEADINGS
+from registry_tools.texts.checks import checks, form_checks
 
 # What the fields of an instruction are called.
 FIELDS = {
@@ -75,13 +77,24 @@ def seen(text: str, office: str, private: str) -> str:
     their names, times are of this machine, and a page is named where a command was."""
     text = re.sub(f"{re.escape(markup(office))}/|{re.escape(markup(private))}/[0-9a-f]+/", "", text)
     text = re.sub(f"(?:--office )?{re.escape(markup(office))}", "the folder", text)
-    for what, here in AT_THE_DESK.items():
+    for what, here in (*AT_THE_DESK.items(), *reasons()):
         text = text.replace(what, here)
     # (what stands in a tag, as what was typed into a field, stays)
     parts = re.split("(<[^>]*>)", text)
     text = "".join(part if part.startswith("<") else in_office_words(part) for part in parts)
     text = TIME.sub(lambda found: local(found[0]), text)
     return UNSEEN.sub(lambda found: markup(escaped(found[0])), text)
+
+
+@functools.lru_cache(maxsize=1)
+def reasons() -> list[tuple[str, str]]:
+    """Reasons of refusals, with the advice and without, that name accounts as texts do, and how forms say the same."""
+    found = []
+    for name, own in checks().items():
+        said = form_checks()[name]
+        found.append((f": {own.meaning} {own.advice}", f": {said.meaning} {said.advice}"))
+        found.append((f": {own.meaning}", f": {said.meaning}"))
+    return [(own, said) for own, said in found if own != said]
 
 
 def in_office_words(text: str) -> str:

@@ -19,6 +19,7 @@ from registry_tools.calendars import dates
 from registry_tools.errors import WordsFault
 from registry_tools.office import approvals, awaited, composing, files, folder, handed, people, words
 from registry_tools.office.approvals import COMMAND_OF, Asked
+from registry_tools.office.changes import change
 from registry_tools.office.folder import Office
 from registry_tools.office.handed import HandedIn, Part
 from registry_tools.office.people import MAY_WAIT
@@ -61,6 +62,7 @@ def show_waiting(said: argparse.Namespace) -> int:
     lines = [*awaited.told(office, handed_in)]
     for part in handed_in.waiting:
         rows = [row for item in handed_in.items(part.kind) if item.part is part for row in item.rows]
+        rows += change.look_at_waiting(office, handed_in, part)
         lines += [f"  {part.start}: {part.name}", *(f"    {row}" for row in rows)]
     print(streams.by_name("\n".join(lines or [NOTHING])))
     return 0
@@ -98,10 +100,10 @@ def left_to_approve(office: Office, handed_in: HandedIn, parts: list[Part]) -> l
 def approve_part(office: Office, handed_in: HandedIn, part: Part) -> None:
     """Approves something that was handed in."""
     items = [item for item in handed_in.items(part.kind) if item.part is part]
-    where = handed.places(part.start, part.end)
+    where, becomes = handed.places(part.start, part.end), change.look_at_waiting(office, handed_in, part)
     left = approvals.approve(office, approvals.sum_of_part(handed_in, part), where)
     print(f"approved: {where}, by {awaited.who_did(office, part.who, part.login)}: {part.name}{left}")
-    print("\n".join(f"  {row}" for item in items for row in item.rows))
+    print("\n".join([*(f"  {row}" for item in items for row in item.rows), *becomes]))
 
 
 def must_be_other(office: Office, command: str, who: str, login: str) -> None:

@@ -11,13 +11,14 @@ FIRST_TEXT = "the first text, with instructions"
 
 
 class Waits(NamedTuple):
-    """Something that waits for another login, in words; what that is, what to do, and the words of ./day approve, if
-    it is not approved yet."""
+    """Something that waits for another login, in words; what that is, what to do, the words of ./day approve, if it is
+    not approved yet, and its part of what was handed in."""
 
     said: str
     what: str
     way: str
     words: tuple[str, ...]
+    part: Part | None = None
 
     @property
     def line(self) -> str:
@@ -31,7 +32,7 @@ def all_waiting(office: Office, handed_in: HandedIn) -> Iterator[Waits]:
         command, place = COMMAND_OF[part.kind], str(part.start)
         where, by = handed.places(part.start, part.end), who_did(office, part.who, part.login)
         second = second_for(office, command, part.login)
-        yield Waits(f"{where}, {command} by {by}, waits for {second}", where, f"./day approve {place}", (place,))
+        yield Waits(f"{where}, {command} by {by}, waits for {second}", where, f"./day approve {place}", (place,), part)
     for asked in all_asked(office):
         own, others = who_did(office, asked.who, asked.login), approvers(office, asked)
         if others:

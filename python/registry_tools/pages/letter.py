@@ -11,28 +11,18 @@ from registry_tools.pages.html import HEAD, PARTS, Cells, Markup, Table, heading
 from registry_tools.pages.rulebook import Rulebook
 from registry_tools.pages.settled import Settled, long_date
 from registry_tools.pages.statement import OF_ANOTHER, DayTold, Own, Statement
-from registry_tools.texts.checks import Check, without_marks
+from registry_tools.texts.checks import MEANING, Check, form_words, without_marks
 from registry_tools.texts.own import OwnRow
 from registry_tools.texts.report import LogRow
 
 DONE_LATER = Table(["Asked for on", "Record", "Instruction", "Why not then", "Done on", "As record"])
 NOT_DUE_YET = "It was not due yet."
 KEPT = "Keep this page: by its head an auditor sees whether a day up to it was changed later."
-# What the registry's own words are called in a letter.
-IN_A_LETTER = {
-    "FROM": "the account that gives", "TO": "the account that receives", "ACCOUNT": "the account",
-    "OTHER": "the other account",
-}  # fmt: skip
-NAMED = re.compile(r"\b(" + "|".join(IN_A_LETTER) + r")\b")
 # Sentences that only an administrator can do something about.
 OF_OFFICE = re.compile(
     r"\s*(An act of administrators: [^.]*\.|For an act of administrators: [^.]*\.|See docs/\S+|: see docs/\S+\.?)"
 )
-# What would not read well by these words.
-MEANING = {
-    "UnknownAccount": "There is no account with one of the numbers in the instruction.",
-    "HoldingTooLarge": "An account that receives would hold more than 10^15 allowances of the kind.",
-}
+# What a holder does otherwise.
 ADVICE = {
     "OutsideCalendar": "Ask the registry for more working days, and enter it again.",
     "YearOutsidePeriod": "Check the year.",
@@ -69,8 +59,7 @@ def meaning_of(check: Check) -> str:
 
 def letter_words(text: str) -> str:
     """A sentence of the rules without what only the office does."""
-    words_only = NAMED.sub(lambda found: IN_A_LETTER[found[1]], OF_OFFICE.sub("", text)).rstrip(".") + "."
-    return re.sub(r"(^|[.] )([a-z])", lambda found: found[1] + found[2].upper(), words_only)
+    return form_words(OF_OFFICE.sub("", text).rstrip(".") + ".")
 
 
 class LetterStatement(Statement):

@@ -7,6 +7,17 @@ from dataclasses import dataclass
 from registry_tools import streams, tables
 
 LINK = re.compile(r"\[([^]]+)\]\(([^)]*)\)")
+# What forms and letters call the accounts of an instruction.
+IN_FORMS = {
+    "FROM": "the account that gives", "TO": "the account that receives", "ACCOUNT": "the account",
+    "OTHER": "the other account",
+}  # fmt: skip
+NAMED = re.compile(r"\b(" + "|".join(IN_FORMS) + r")\b")
+# What would not read well by these words.
+MEANING = {
+    "UnknownAccount": "There is no account with one of the numbers in the instruction.",
+    "HoldingTooLarge": "An account that receives would hold more than 10^15 allowances of the kind.",
+}
 
 
 @dataclass(frozen=True)
@@ -25,12 +36,27 @@ def without_marks(text: str) -> str:
     return streams.by_name(words.replace("`", ""))
 
 
+def form_words(text: str) -> str:
+    """A sentence of the table as forms and letters say it."""
+    said = NAMED.sub(lambda found: IN_FORMS[found[1]], text)
+    return re.sub(r"(^|[.] )([a-z])", lambda found: found[1] + found[2].upper(), said)
+
+
 @functools.lru_cache(maxsize=None)
 def checks() -> dict[str, Check]:
     """All checks by their names, in the order in which they are asked."""
     return {
         own.name: Check(code, own.name, without_marks(own.meaning), without_marks(own.advice))
         for code, own in enumerate(tables.CHECKS, 1)
+    }
+
+
+@functools.lru_cache(maxsize=None)
+def form_checks() -> dict[str, Check]:
+    """The same, as forms say it."""
+    return {
+        own.name: Check(own.code, own.name, MEANING.get(own.name) or form_words(own.meaning), form_words(own.advice))
+        for own in checks().values()
     }
 
 

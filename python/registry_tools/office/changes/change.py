@@ -13,14 +13,15 @@ With --pairs DAY REPORT nothing is kept: the whole blocks of the accounts that a
 ./day next --changes.
 """
 import argparse
+import contextlib
 import sys
 import tempfile
-from dataclasses import dataclass
+from dataclasses import dataclass, replace
 from pathlib import Path
 from typing import Iterator
 
 from registry_tools import streams, tables
-from registry_tools.errors import FOUND, WordsFault
+from registry_tools.errors import FOUND, FileFault, WordsFault
 from registry_tools.notes import LOOK, Notes
 from registry_tools.office import (
     awaited, composing, folder, handed, handed_files, labels, naming, next as next_day, words,
@@ -256,6 +257,21 @@ def look_at(handed_in: HandedIn, composed: NextDay, office: Office, made: list[E
     if not difference.rows():
         raise WordsFault(NOTHING)
     return difference
+
+
+def look_at_waiting(office: Office, handed_in: HandedIn, part: Part) -> list[str]:
+    """The rows that go and come if a change that waits for another login counts; none, if the next day can't have
+    it, or if it is none by hand."""
+    if part.kind not in (handed.CHANGES, handed.EDITS):
+        return []
+    others = [own for own in handed_in.waiting if own.start != part.start]
+    # (what keeps it out of the next day is told where that day is made)
+    with contextlib.suppress(WordsFault, FileFault):
+        date = composing.settlement_date(None, office, handed_in)
+        both = handed_in.until(date), replace(handed_in, waiting=others).until(date)
+        before, after = (composing.compose(office, own, date).day(office.next_folder / NEXT) for own in both)
+        return Difference(part, before, after, []).rows()
+    return []
 
 
 def show_and_keep(
