@@ -97,8 +97,7 @@ struct registry_answer registry_statement(const char *day, size_t day_length, ui
                                           size_t room_length);
 
 /* The statements of all accounts in one text, in the order of the accounts: each is that of registry_statement, and
- * ends with its row `end`. The day is settled once. The time grows as accounts times instructions: a full day of
- * 100,000 accounts takes some seconds. */
+ * ends with its row `end`. The day is settled once, and each log row is looked at once. */
 struct registry_answer registry_statements(const char *day, size_t day_length, char *room, size_t room_length);
 
 /* The text of the next day up to its instructions: the heading of the day with the date of the next one and the next

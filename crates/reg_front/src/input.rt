@@ -16,26 +16,6 @@ use reg_text::{DayParts, LEAST_PART, read_day_in_lists, read_day_of_pieces};
 use std::alloc::Global;
 use std::thread::Threads;
 
-// The day of an input that is read by one call after another, and its bytes.
-fn read_text<T: Threads + Sync, R: Source>(
-    rt: &T,
-    alloc: Global,
-    reader: &mut R,
-    threads: usize,
-) -> Result<(DayParts, Memory), FrontFault>
-    requires { CanFail (R.stream reader.old) }
-    ensures ok { IfOk result
-        (λ read. IfSome (R.stream reader.old).bytes (λ input. IsReading (rows_in_text input) (day_of_parts read.0))) }
-    ensures whole { OnOk result (IsReadWhole (R.stream reader.old) (R.stream reader.new)) }
-    ensures follows { IfOk result (λ read. read.0.batch.base + 1 ≡ read.0.parts.next) }
-    ensures err { IfErr result (IsReadingFault (R.stream reader.old).bytes) }
-    ensures read { IfErr result (λ fault. Reads fault (R.stream reader.old) (R.stream reader.new)) }
-{
-    let input = read_all(alloc, reader)?;
-    let day = read_day_in_lists(rt, alloc, input.as_slice(), threads, LEAST_PART)?;
-    Ok((day, Memory::Text(input)))
-}
-
 /// The day that the whole input describes, read by at most so many threads, and the bytes of the input, whose memory is
 /// used again for the output.
 pub(crate) fn read_input<T: Threads + Sync, R: Source>(
@@ -57,6 +37,10 @@ pub(crate) fn read_input<T: Threads + Sync, R: Source>(
             let day = read_day_of_pieces(rt, alloc, pieces.as_slice())?;
             Ok((day, Memory::Pieces(pieces)))
         }
-        None => read_text(rt, alloc, reader, threads),
+        None => {
+            let input = read_all(alloc, reader)?;
+            let day = read_day_in_lists(rt, alloc, input.as_slice(), threads, LEAST_PART)?;
+            Ok((day, Memory::Text(input)))
+        }
     }
 }

@@ -2,7 +2,7 @@
 
 ghost use Rattle.std.specs.Prelude.{◌≡◌, ◌≤◌, ◌+◌, ◌++◌, [], true, None, IfOk, MatchResult};
 ghost use Rattle.reg_book.specs.Chains.{book_after};
-ghost use Rattle.reg_book.specs.Day.{day_of, settled_day, log_of, replies_of, rows_replied};
+ghost use Rattle.reg_book.specs.Day.{log_of, rows_replied};
 ghost use Rattle.reg_base.specs.Workers.{may_work};
 ghost use Rattle.reg_text.specs.Inputs.{day_of_input, day_of_parts};
 ghost use Rattle.reg_text.specs.NextDays.{report_of};
@@ -20,10 +20,7 @@ use crate::command::Command;
 use crate::fault::FrontFault;
 use crate::memory::Memory;
 use reg_base::{AccountNo, Batch, NoMemory, Rules};
-use reg_book::{
-    ClosedDay, ClosedParts, Parts, SettleFault, Settled, log_is_made_again, settle_in_place,
-    settle_plain,
-};
+use reg_book::{ClosedDay, ClosedParts, Parts, log_is_made_again, settle_in_place};
 use reg_plan::Plan;
 use reg_regions::{FreePlaces, are_allowed, settle_without_shifts};
 use reg_text::{
@@ -222,7 +219,7 @@ fn state_account(alloc: Global, day: &DayInput, account: AccountNo) -> Result<Ve
     ensures { IfOk result
         (λ text. text.items ≡ text_of (statement_of day.now.book (log_of (day_of_input day.now)) account)) }
 {
-    let settled = settle(alloc, day)?;
+    let settled = day.settle(alloc)?;
     match statement(alloc, &day.book, settled.rows(), account) {
         Ok(text) => Ok(text),
         Err(StatementFault::NoMemory) => Err(NoMemory),
@@ -265,18 +262,6 @@ fn make_totals<T: Threads + Sync>(
     let closed = close_day(rt, alloc, day, threads)?;
     let text = totals_of_parts(alloc, &closed.parts)?;
     Ok(used_for(alloc, text, Closed::ByRegions(closed)))
-}
-
-// Settles the day. Its book stays as it is.
-fn settle(alloc: Global, day: &DayInput) -> Result<Settled, NoMemory>
-    requires { day.now.batch.base + 1 ≡ day.now.book.next }
-    ensures { IfOk result (λ s. s ≡ settled_day (day_of_input day.now)) }
-{
-    match settle_plain(alloc, &day.book, &day.rules, &day.batch) {
-        Ok(settled) => Ok(settled),
-        Err(SettleFault::NoMemory) => Err(NoMemory),
-        Err(SettleFault::WrongBase { .. }) => unreachable!(),
-    }
 }
 
 // Settles the day on its own book, by so many threads.

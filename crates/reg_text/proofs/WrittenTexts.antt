@@ -90,7 +90,7 @@ pub statement-written : EachStatementIsWritten
 statement-written b rows account =
     let opening = held_now b.accounts account in
     let about = rows_about (directory_of b.accounts) account rows in
-    let closing = closing_held (directory_of b.accounts) opening rows in
+    let closing = closing_held opening about in
     let last : AllByRecursion IsWritten (closing_row closing ∷ end_row ∷ []) =
     (closing-written closing, (end-written, tt)) in
     are-written (statement_of b rows account) (

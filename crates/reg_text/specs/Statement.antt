@@ -1,7 +1,13 @@
 -- The statement of an account over a day: what it held before, the log rows that concern it, and what it holds after.
 use Rattle.std.specs.Prelude.{◌≡◌, ℕ, Bool, true, false, ◌==◌, List, [], ◌∷◌, ◌++◌, filter, filter_map, find, Option}
-use Rattle.std.specs.Prelude.{None, unwrap_or, is_some, codes}
+use Rattle.std.specs.Prelude.{None, unwrap_or, is_some, codes, map, Vec}
+use Rattle.std.specs.Option.{option_map_or}
 use Rattle.std.specs.List.{flat_map, last_or}
+use Rattle.std.specs.Borrow.{Bor}
+use Rattle.std.specs.Global.{Global}
+use Rattle.std.specs.Ordering.{nat_cmp}
+use Rattle.std.specs.BTreeMap as tree
+use Rattle.std.specs.BTreeMap.{BTreeMap}
 use Rattle.reg_base.specs.Directory.{DirectoryValue}
 use Rattle.reg_base.specs.Footprint.{footprint, is_among}
 use Rattle.reg_rules.specs.declared.reply.HeldNow.{HeldNow}
@@ -39,13 +45,13 @@ closing_list (Refused refusal) = []
 abbrev pub told_by : ℕ → LogRow → Option HeldNow
 told_by a row = find (λ held. held.account == a) (closing_list row.reply)
 
--- what the last row about the account tells of it, if one does
-abbrev pub last_told : DirectoryValue → ℕ → List LogRow → Option HeldNow
-last_told directory a rows = last_or None (filter_map (told_by a) (rows_about directory a rows))
+-- what the last of these rows that tells of the account says of it, if one does
+abbrev pub last_told : ℕ → List LogRow → Option HeldNow
+last_told a rows = last_or None (filter_map (told_by a) rows)
 
--- what the account holds after the day: what the last row about it tells of it, else what it held before
-abbrev pub closing_held : DirectoryValue → HeldNow → List LogRow → HeldNow
-closing_held directory opening rows = unwrap_or (last_told directory opening.account rows) opening
+-- what the account holds after the day: what the last of the rows about it tells of it, else what it held before
+abbrev pub closing_held : HeldNow → List LogRow → HeldNow
+closing_held opening about = unwrap_or (last_told opening.account about) opening
 
 -- opening,NO,GENERAL,AVIATION and closing,NO,GENERAL,AVIATION
 abbrev pub opening_row : HeldNow → TextRow
@@ -54,15 +60,14 @@ opening_row held = codes "opening" ∷ holding_fields held
 abbrev pub closing_row : HeldNow → TextRow
 closing_row held = codes "closing" ∷ holding_fields held
 
--- the statement of an account that held this before the day, and the row end
-abbrev pub statement_rows : DirectoryValue → HeldNow → List LogRow → List TextRow
-statement_rows directory opening rows =
-    opening_row opening ∷ log_rows (rows_about directory opening.account rows)
-    ++ closing_row (closing_held directory opening rows) ∷ end_row ∷ []
+-- the statement of an account that held this before the day, with the log rows about it, and the row end
+abbrev pub statement_rows : HeldNow → List LogRow → List TextRow
+statement_rows opening about =
+    opening_row opening ∷ log_rows about ++ closing_row (closing_held opening about) ∷ end_row ∷ []
 
 -- the statement of an account of the book before the day
 abbrev pub statement_of : BookValue → List LogRow → ℕ → List TextRow
-statement_of book rows a = statement_rows (directory_of book.accounts) (held_now book.accounts a) rows
+statement_of book rows a = statement_rows (held_now book.accounts a) (rows_about (directory_of book.accounts) a rows)
 
 -- the statements of all accounts of the book, in their order, as one text
 abbrev pub statements_of : BookValue → List LogRow → List ℕ
@@ -76,3 +81,11 @@ has_account book a = is_some (account book.accounts a)
 abbrev pub IsStatementFault : BookValue → ℕ → StatementFault → Type 0
 IsStatementFault book a UnknownAccount = has_account book a ≡ false
 IsStatementFault book a NoMemory = has_account book a ≡ true
+
+-- log rows that are lent
+abbrev pub lent_rows : List (Bor LogRow) → List LogRow
+lent_rows lent = map (λ row. row.now) lent
+
+-- the rows that are noted at an account
+abbrev pub noted_at : BTreeMap ℕ (Vec (Bor LogRow) Global) → ℕ → List LogRow
+noted_at noted a = option_map_or (λ list. lent_rows list.items) (tree.get nat_cmp noted a) []

@@ -2,7 +2,7 @@
 
 ghost use Rattle.std.specs.Prelude.{◌≡◌, ◌+◌, IfOk, MatchResult, Ok, Err};
 ghost use Rattle.reg_book.specs.Chains.{book_after};
-ghost use Rattle.reg_book.specs.Day.{log_of, replies_of, settled_day};
+ghost use Rattle.reg_book.specs.Day.{log_of};
 ghost use Rattle.reg_text.specs.Determined.{figures_rows};
 ghost use Rattle.reg_text.specs.Inputs.{day_of_input};
 ghost use Rattle.reg_text.specs.NextDays.{report_of};
@@ -15,7 +15,7 @@ ghost use Rattle.registry_c.specs.declared.question.Question.TheVariants as aske
 use crate::fault::Fault;
 use crate::question::Question;
 use reg_base::{AccountNo, NoMemory};
-use reg_book::{ClosedDay, SettleFault, Settled, log_is_made_again, settle_in_place, settle_plain};
+use reg_book::{ClosedDay, log_is_made_again, settle_in_place};
 use reg_plan::Plan;
 use reg_text::{
     DayInput, StatementFault, all_statements, figures, plan_text, read_day, statement, totals_text,
@@ -73,7 +73,7 @@ fn make_log(alloc: Global, day: &DayInput) -> Result<Vec<u8>, NoMemory>
     requires { day.now.batch.base + 1 ≡ day.now.book.next }
     ensures { IfOk result (λ text. text.items ≡ text_of (log_rows (log_of (day_of_input day.now)))) }
 {
-    let settled = settle(alloc, day)?;
+    let settled = day.settle(alloc)?;
     write_log(alloc, settled.rows())
 }
 
@@ -100,7 +100,7 @@ fn make_statement(alloc: Global, day: &DayInput, account: u32) -> Result<Vec<u8>
     if day.book.get(number).is_none() {
         return Err(Fault::NoAccount);
     }
-    let settled = settle(alloc, day)?;
+    let settled = day.settle(alloc)?;
     match statement(alloc, &day.book, settled.rows(), number) {
         Ok(text) => Ok(text),
         Err(StatementFault::NoMemory) => Err(Fault::NoMemory),
@@ -113,7 +113,7 @@ fn make_statements(alloc: Global, day: &DayInput) -> Result<Vec<u8>, NoMemory>
     requires { day.now.batch.base + 1 ≡ day.now.book.next }
     ensures { IfOk result (λ text. IsAnswer asked.Statements (day_of_input day.now) text.items) }
 {
-    let settled = settle(alloc, day)?;
+    let settled = day.settle(alloc)?;
     all_statements(alloc, &day.book, settled.rows())
 }
 
@@ -133,18 +133,6 @@ fn make_totals(alloc: Global, day: DayInput) -> Result<Vec<u8>, NoMemory>
 {
     let closed = close(alloc, day)?;
     totals_text(alloc, &closed.book)
-}
-
-// Settles the day. Its book stays as it is.
-fn settle(alloc: Global, day: &DayInput) -> Result<Settled, NoMemory>
-    requires { day.now.batch.base + 1 ≡ day.now.book.next }
-    ensures { IfOk result (λ s. s ≡ settled_day (day_of_input day.now)) }
-{
-    match settle_plain(alloc, &day.book, &day.rules, &day.batch) {
-        Ok(settled) => Ok(settled),
-        Err(SettleFault::NoMemory) => Err(NoMemory),
-        Err(SettleFault::WrongBase { .. }) => unreachable!(),
-    }
 }
 
 // Settles the day on its own book.

@@ -14,6 +14,7 @@ use crate::cause::DayFault;
 use crate::reading::draft::Draft;
 use crate::reading::text::read_rows;
 use crate::reading::threads::{STARTS, read_all_parts};
+use crate::rooms::with_room;
 use reg_base::NoMemory;
 use reg_cuts::cut_near;
 use std::alloc::{AllocError, Global};
@@ -73,7 +74,10 @@ fn read_by_pieces<R: Threads + Sync>(
 fn join_pieces(alloc: Global, pieces: &[Vec<u8>]) -> Result<Vec<u8>, NoMemory>
     ensures { IfOk result (λ text. text.items ≡ text_of_pieces pieces.now) }
 {
-    let mut text = Vec::new(alloc);
+    let bytes = pieces
+        .iter()
+        .fold(0, |sum: usize, piece| sum.saturating_add(piece.len()));
+    let mut text = with_room(alloc, bytes);
     for piece in pieces {
         text.extend_from_slice(piece)?;
     }

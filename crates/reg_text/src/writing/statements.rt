@@ -1,10 +1,7 @@
 //! Writing the statement of an account.
 
-ghost use Rattle.std.specs.Prelude.{◌≡◌, ◌≤◌, [], ◌∷◌, ◌++◌, true, find, filter_map, option_map, ◌==◌, IfOk, OnOk};
-ghost use Rattle.std.specs.Prelude.{MatchResult, length, map};
-ghost use Rattle.reg_base.specs.Footprint.{is_among};
-ghost use Rattle.reg_book.specs.Book.{directory_of};
-ghost use Rattle.std.specs.List.{last_or};
+ghost use Rattle.std.specs.Prelude.{◌≡◌, ◌≤◌, ℕ, [], ◌∷◌, ◌++◌, true, find, option_map, ◌==◌, if◌then◌else◌, IfOk};
+ghost use Rattle.std.specs.Prelude.{OnOk, MatchResult, length};
 ghost use Rattle.csv.specs.Writing.{default_writer, row_text};
 ghost use Rattle.reg_rules.specs.State.{account};
 ghost use Rattle.reg_rules.specs.Step.{held_now};
@@ -13,17 +10,19 @@ ghost use Rattle.reg_text.specs.Plain.{IsPlain};
 ghost use Rattle.reg_text.specs.Log.{holding_fields};
 ghost use Rattle.reg_text.specs.Report.{text_of, log_rows};
 ghost use Rattle.reg_text.specs.Statement.{concerns, rows_about, told_by, last_told, statement_rows, statement_of};
-ghost use Rattle.reg_text.specs.Statement.{has_account, statements_of, footprint_of_row, IsStatementFault};
+ghost use Rattle.reg_text.specs.Statement.{has_account, statements_of, lent_rows, noted_at, IsStatementFault};
 
 use crate::writing::log::put_log_row;
 use crate::writing::report::put_end;
 use crate::writing::row::RowText;
 use crate::writing::rows::put_numbers;
 use crate::writing::text::Text;
-use reg_base::{AccountNo, AllowanceKind, Directory, Footprint, NoMemory};
+use reg_base::laws::each_footprint_is_sound;
+use reg_base::{AccountNo, AllowanceKind, Directory, NoMemory};
 use reg_book::Book;
 use reg_rules::{HeldNow, LogRow, Reply};
 use std::alloc::Global;
+use std::collections::BTreeMap;
 use thiserror::Error;
 
 /// Why there is no statement.
@@ -36,6 +35,9 @@ pub enum StatementFault {
     #[error("out of memory")]
     NoMemory,
 }
+
+// The log rows about accounts, in order, by the numbers of these.
+type NotedRows<'rows> = BTreeMap<u32, Vec<&'rows LogRow>>;
 
 // What the account holds, if it is in the book.
 fn find_held_in(book: &Book, number: AccountNo) -> Option<HeldNow>
@@ -84,45 +86,56 @@ fn put_held(text: &mut Text, row: &mut RowText, tag: &[u8], held: &HeldNow) -> R
     put_numbers(text, row, tag, &numbers)
 }
 
-// Adds a log row if the account is in its footprint. Answers what the row tells of the account, or if it tells
-// nothing, what was told before.
-fn put_row_about(
-    text: &mut Text,
-    row: &mut RowText,
-    directory: &Directory,
-    number: AccountNo,
-    log: &LogRow,
-    told: Option<HeldNow>,
-) -> Result<Option<HeldNow>, NoMemory>
-    ensures text { OnOk result
-        (text.new ≡ text.old ++ text_of (log_rows (rows_about directory.now number (log.now ∷ [])))) }
-    ensures told { IfOk result
-        (λ last. last ≡ last_or told (filter_map (told_by number) (rows_about directory.now number (log.now ∷ [])))) }
-{
-    if !concerns(directory, number, log) {
-        return Ok(told);
-    }
-    put_log_row(text, row, log)?;
-    Ok(told_by(number, log).or(told))
-}
-
-// Adds the log rows in whose footprint the account is. Answers what the last of them that tells of it says.
+// Adds log rows. Answers what the last of them that tells of the account says.
 #[tactic(auto, using(crate::proofs::TextFacts::row_loop))]
 fn put_rows_about(
     text: &mut Text,
     row: &mut RowText,
-    directory: &Directory,
     number: AccountNo,
-    rows: &[LogRow],
+    about: &[&LogRow],
 ) -> Result<Option<HeldNow>, NoMemory>
-    ensures text { OnOk result (text.new ≡ text.old ++ text_of (log_rows (rows_about directory.now number rows.now))) }
-    ensures told { IfOk result (λ told. told ≡ last_told directory.now number rows.now) }
+    ensures text { OnOk result (text.new ≡ text.old ++ text_of (log_rows (lent_rows about.now))) }
+    ensures told { IfOk result (λ told. told ≡ last_told number (lent_rows about.now)) }
 {
     let mut told = None;
-    for log in rows {
-        told = put_row_about(text, row, directory, number, log, told)?;
+    for log in about {
+        put_log_row(text, row, log)?;
+        told = told_by(number, log).or(told);
     }
     Ok(told)
+}
+
+// Adds the statement of an account that held this before the day, with the log rows about it.
+fn put_statement(
+    text: &mut Text,
+    row: &mut RowText,
+    opening: &HeldNow,
+    about: &[&LogRow],
+) -> Result<(), NoMemory>
+    ensures { OnOk result (text.new ≡ text.old ++ text_of (statement_rows opening.now (lent_rows about.now))) }
+{
+    put_held(text, row, b"opening", opening)?;
+    let told = put_rows_about(text, row, opening.account, about)?;
+    put_held(text, row, b"closing", &told.unwrap_or(*opening))?;
+    put_end(text)
+}
+
+// The log rows in whose footprint the account is, in order.
+fn rows_about<'rows>(
+    alloc: Global,
+    directory: &Directory,
+    number: AccountNo,
+    rows: &'rows [LogRow],
+) -> Result<Vec<&'rows LogRow>, NoMemory>
+    ensures { IfOk result (λ about. lent_rows about.items ≡ rows_about directory.now number rows.now) }
+{
+    let mut about = Vec::new(alloc);
+    for log in rows {
+        if concerns(directory, number, log) {
+            about.push(log)?;
+        }
+    }
+    Ok(about)
 }
 
 // The statement of an account that held this before the day.
@@ -132,14 +145,14 @@ fn make_statement(
     opening: &HeldNow,
     rows: &[LogRow],
 ) -> Result<Vec<u8>, NoMemory>
-    ensures { IfOk result (λ text. text.items ≡ text_of (statement_rows directory.now opening.now rows.now)) }
+    ensures { IfOk result
+        (λ text. text.items
+        ≡ text_of (statement_rows opening.now (rows_about directory.now opening.now.account rows.now))) }
 {
+    let about = rows_about(alloc, directory, opening.account, rows)?;
     let mut text = Text::new(alloc);
     let mut row = RowText::new();
-    put_held(&mut text, &mut row, b"opening", opening)?;
-    let told = put_rows_about(&mut text, &mut row, directory, opening.account, rows)?;
-    put_held(&mut text, &mut row, b"closing", &told.unwrap_or(*opening))?;
-    put_end(&mut text)?;
+    put_statement(&mut text, &mut row, opening, &about)?;
     Ok(text.into_bytes())
 }
 
@@ -170,92 +183,74 @@ pub fn statement(
     }
 }
 
-// The accounts that the instruction of each row reads or changes.
-#[tactic(auto, using(crate::proofs::StatementFacts::footprint_loop))]
-fn footprints_of(
+// Notes a log row at an account, behind those that are noted there.
+fn note_row<'rows>(
+    alloc: Global,
+    noted: &mut NotedRows<'rows>,
+    number: AccountNo,
+    log: &'rows LogRow,
+) -> Result<(), NoMemory>
+    ensures { OnOk result ((a : ℕ) → noted_at noted.new a
+        ≡ (if number == a then noted_at noted.old a ++ log.now ∷ [] else noted_at noted.old a)) }
+{
+    noted
+        .entry(number.get())?
+        .or_insert(Vec::new(alloc))
+        .push(log)?;
+    Ok(())
+}
+
+// Notes a log row at each account of its footprint.
+fn note_touched<'rows>(
+    alloc: Global,
+    noted: &mut NotedRows<'rows>,
+    directory: &Directory,
+    log: &'rows LogRow,
+) -> Result<(), NoMemory>
+    ensures { OnOk result
+        ((a : ℕ) → noted_at noted.new a ≡ noted_at noted.old a ++ rows_about directory.now a (log.now ∷ [])) }
+{
+    each_footprint_is_sound();
+    let touched = log.instruction.touches(directory);
+    let accounts = touched.as_slice();
+    for number in accounts {
+        note_row(alloc, noted, *number, log)?;
+    }
+    Ok(())
+}
+
+// The log rows about each account, by its number.
+fn note_all<'rows>(
     alloc: Global,
     directory: &Directory,
-    rows: &[LogRow],
-) -> Result<Vec<Footprint>, NoMemory>
-    ensures { IfOk result (λ all. all.items ≡ map (footprint_of_row directory.now) rows.now) }
+    rows: &'rows [LogRow],
+) -> Result<NotedRows<'rows>, NoMemory>
+    ensures { IfOk result (λ noted. (a : ℕ) → noted_at noted a ≡ rows_about directory.now a rows.now) }
 {
-    let mut all = Vec::new(alloc);
+    let mut noted = BTreeMap::new(alloc);
     for log in rows {
-        all.push(log.instruction.touches(directory))?;
+        note_touched(alloc, &mut noted, directory, log)?;
     }
-    Ok(all)
+    Ok(noted)
 }
 
-// Whether the account is among those of a footprint.
-fn is_in(touched: &Footprint, number: AccountNo) -> bool
-    ensures { result ≡ is_among touched.now number }
-{
-    touched.as_slice().iter().any(|known| *known == number)
-}
-
-// Adds a log row as [`put_row_about`] does, from the footprint of its instruction.
-fn put_row_touching(
-    text: &mut Text,
-    row: &mut RowText,
-    directory: &Directory,
-    number: AccountNo,
-    log: &LogRow,
-    touched: &Footprint,
-    told: Option<HeldNow>,
-) -> Result<Option<HeldNow>, NoMemory>
-    requires { touched.now ≡ footprint_of_row directory.now log.now }
-    ensures text { OnOk result
-        (text.new ≡ text.old ++ text_of (log_rows (rows_about directory.now number (log.now ∷ [])))) }
-    ensures told { IfOk result
-        (λ last. last ≡ last_or told (filter_map (told_by number) (rows_about directory.now number (log.now ∷ [])))) }
-{
-    if !is_in(touched, number) {
-        return Ok(told);
-    }
-    put_row_about(text, row, directory, number, log, told)
-}
-
-// Adds log rows as [`put_rows_about`] does, from the footprints of their instructions.
-#[tactic(auto, using(crate::proofs::TextFacts::row_loop))]
-fn put_rows_touching(
-    text: &mut Text,
-    row: &mut RowText,
-    directory: &Directory,
-    number: AccountNo,
-    rows: &[LogRow],
-    touched: &[Footprint],
-) -> Result<Option<HeldNow>, NoMemory>
-    requires { touched.now ≡ map (footprint_of_row directory.now) rows.now }
-    ensures text { OnOk result (text.new ≡ text.old ++ text_of (log_rows (rows_about directory.now number rows.now))) }
-    ensures told { IfOk result (λ told. told ≡ last_told directory.now number rows.now) }
-{
-    let mut told = None;
-    for index in 0..rows.len() {
-        let log = &rows[index];
-        let accounts = &touched[index];
-        told = put_row_touching(text, row, directory, number, log, accounts, told)?;
-    }
-    Ok(told)
-}
-
-// Adds the statement of an account, which is in the book.
-fn put_statement(
+// Adds the statement of an account of the book, with the log rows that are noted at it.
+fn put_noted(
     text: &mut Text,
     row: &mut RowText,
     book: &Book,
     number: AccountNo,
-    rows: &[LogRow],
-    touched: &[Footprint],
+    noted: &NotedRows<'_>,
 ) -> Result<(), NoMemory>
-    requires known { has_account book.now number ≡ true }
-    requires touched { touched.now ≡ map (footprint_of_row (directory_of book.now.accounts)) rows.now }
-    ensures { OnOk result (text.new ≡ text.old ++ text_of (statement_of book.now rows.now number)) }
+    requires { has_account book.now number ≡ true }
+    ensures { OnOk result (text.new ≡ text.old
+        ++ text_of (statement_rows (held_now book.now.accounts number) (noted_at noted.now number))) }
 {
     let opening = find_held_in(book, number).unwrap();
-    put_held(text, row, b"opening", &opening)?;
-    let told = put_rows_touching(text, row, book.directory(), number, rows, touched)?;
-    put_held(text, row, b"closing", &told.unwrap_or(opening))?;
-    put_end(text)
+    match noted.get(&number.get()) {
+        Some(about) => put_statement(text, row, &opening, about.as_slice()),
+        None => put_statement(text, row, &opening, &[]),
+    }
 }
 
 /// The statements of all accounts over a day, in the order of the book, one behind another: each is what [`statement`]
@@ -267,12 +262,12 @@ fn put_statement(
 pub fn all_statements(alloc: Global, book: &Book, rows: &[LogRow]) -> Result<Vec<u8>, NoMemory>
     ensures { IfOk result (λ text. text.items ≡ statements_of book.now rows.now) }
 {
-    let touched = footprints_of(alloc, book.directory(), rows)?;
+    let noted = note_all(alloc, book.directory(), rows)?;
     let mut text = Text::new(alloc);
     let mut row = RowText::new();
     let accounts = book.accounts();
     for account in accounts {
-        put_statement(&mut text, &mut row, book, account.number(), rows, &touched)?;
+        put_noted(&mut text, &mut row, book, account.number(), &noted)?;
     }
     Ok(text.into_bytes())
 }
