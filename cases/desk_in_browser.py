@@ -25,8 +25,8 @@ MOST_SECONDS, TIMES = 240, 5
 LOOKED_AT = (
     "/", "/hand-in?act=transfer", "/hand-in?act=distribute", "/next", "/change?account=100377", "/change?of=rules",
     "/close", "/days", "/undo", "/release", "/names", "/days/2025-09-22", "/accounts", "/accounts/100377?history=1",
-    "/compliance?deadline=2025-09-30", "/month?deadline=2025-09-30", "/find?account=100377", "/journal", "/audit",
-    "/send",
+    "/compliance?deadline=2025-09-30", "/due?until=2026-09-30", "/month?deadline=2025-09-30", "/find?account=100377",
+    "/journal", "/audit", "/send",
 )  # fmt: skip
 WIDTHS = (1280, 320)
 # Where rows are stacked although there is room; and the numbers that then stand far from the names of their columns.

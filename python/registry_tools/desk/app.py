@@ -10,7 +10,7 @@ from werkzeug import formparser
 from werkzeug.exceptions import HTTPException, NotFound, RequestEntityTooLarge
 from werkzeug.wrappers import Response
 
-from registry_tools.desk import gate, pages, posts, questions, shown, words
+from registry_tools.desk import coming, gate, pages, posts, questions, shown, words
 from registry_tools.desk.gate import Served
 from registry_tools.errors import FileFault, WordsFault
 from registry_tools.pages import beside, html
@@ -24,8 +24,8 @@ from registry_tools.texts.in_words import grouped
 MOST_BYTES, MOST_FORM = 1 << 30, 1 << 20
 SECTIONS = {
     "/": "Today", "/hand-in": "Hand in", "/next": "The next day", "/change": "Change", "/close": "Close",
-    "/days": "Days", "/accounts": "Accounts", "/compliance": "Compliance", "/month": "Months", "/find": "Find",
-    "/names": "Names", "/journal": "Journal", "/audit": "Audit", "/send": "Send",
+    "/days": "Days", "/accounts": "Accounts", "/compliance": "Compliance", "/due": "Due", "/month": "Months",
+    "/find": "Find", "/names": "Names", "/journal": "Journal", "/audit": "Audit", "/send": "Send",
 }  # fmt: skip
 # What a desk that only looks has no use for.
 OF_CHANGES = {"/hand-in", "/change", "/close"}
@@ -34,6 +34,7 @@ GET: dict[str, Callable[..., Any]] = {
     "/close": pages.close, "/days": pages.days, "/days/<string(length=10):word>": pages.day, "/undo": pages.undo,
     "/release": pages.release, "/name": pages.name, "/names": questions.names,
     "/accounts": questions.accounts, "/accounts/<int:number>": questions.account, "/compliance": questions.compliance,
+    "/due": coming.page, "/due.<any(csv, xlsx, ics):kind>": coming.as_file,
     "/month": questions.month_page, "/find": questions.find, "/find.<any(csv, xlsx):kind>": questions.find_file,
     "/table.<any(csv, xlsx):kind>": questions.table_file,
     "/journal": questions.journal, "/audit": questions.audit, "/send": questions.send,

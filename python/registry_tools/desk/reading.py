@@ -126,8 +126,9 @@ class Reading:
         return labels.of_folder(self.path)
 
     def state_of_names(self) -> str:
-        """What all that tells of settled days depends on: the journal, and the names."""
-        return f"{self.office().journal.last_line} {files.stamp_of(self.path / LABELS)}"
+        """What all that tells of settled days depends on: the journal, the names, and the deadlines of the office."""
+        looks = " ".join(files.stamp_of(self.path / name) for name in (LABELS, SETTINGS))
+        return f"{self.office().journal.last_line} {looks}"
 
     # Settled days.
 

@@ -15,7 +15,7 @@ from registry_tools.questions.compliance import (
 )  # fmt: skip
 from registry_tools.texts.in_words import grouped
 
-MISSED = Table(["Account", "Holder", "Surrendered of emissions", "Missing", "Until"], ("Missing",))
+MISSED = Table(["Account", "Holder", "Surrendered of emissions", "Missing"], ("Missing",))
 # What makes a cell with a day or an account, which a desk leads on from: the address of its page, and its words.
 Way = Callable[[str, object], object]
 
@@ -46,21 +46,20 @@ def compliance_parts(
         yield paragraph("No year of the current period is over.")
         return
     rows = [*standings(last.day, last.report, year)]
-    yield compliance_facts(rows, year)
+    yield compliance_facts(rows, year, until_in_words(last.date, deadline or due.surrender_of(year)))
     unsettled = [row for row in rows if row.missing or row.verdict == NO_EMISSIONS]
     lacking = sorted(unsettled, key=lambda row: (-(row.missing or 0), row.account.number))
     if lacking:
-        until = until_in_words(last.date, deadline or due.surrender_of(year))
         own: list[tuple[object, ...]] = []
         for row in lacking:
             of = row.account
             account, holder = way(f"/accounts/{of.number}", names.account(of.number)), names.holder(of.holder)
-            own.append((account, holder, bar(row), missing_of(row), until))
+            own.append((account, holder, bar(row), missing_of(row)))
         yield from first_rows_of(MISSED, f"Who is missing how much for {year}", own, most)
 
 
-def compliance_facts(rows: list[Standing], year: int) -> Markup:
-    """The share of compliant operators, and the sums."""
+def compliance_facts(rows: list[Standing], year: int, until: str) -> Markup:
+    """Until when what is missing has to be surrendered, the share of compliant operators, and the sums."""
     count = Counter(row.verdict for row in rows)
     missing, debtors = sum(row.missing or 0 for row in rows), sum(bool(row.missing) for row in rows)
     told = (COMPLIANT, MISSING, NO_EMISSIONS)
@@ -68,6 +67,7 @@ def compliance_facts(rows: list[Standing], year: int) -> Markup:
     known = [row for row in rows if not row.years_without_emissions]
     return facts([
         ("Year", year),
+        ("Until when", until),
         ("Operators", grouped(len(rows))),
         ("Compliant", f"{grouped(count[COMPLIANT])} of {grouped(len(rows))}"),
         ("Missing allowances", f"{grouped(missing)}, of {count_of(debtors, 'operator', 'operators')}"),

@@ -74,18 +74,25 @@ def add_words(parser: argparse.ArgumentParser) -> None:
 def run(said: argparse.Namespace) -> int:
     """Runs the command, and answers the exit status."""
     office = folder.opened(said.office)
-    last = composing.last_day(office)
-    ahead = last.date + datetime.timedelta(office.settings.due.lead)
-    until = past.date_or("--until", said.until, ahead)
+    until = past.date_or("--until", said.until, last_shown(office))
     found = due_until(office, until)
     if said.ics is not None:
-        title = f"Registry: what is due up to {until}"
-        NewFile(said.ics, calendar_of(title, [(own.date, f"{own.what}: {own.text}") for own in found])).keep()
+        NewFile(said.ics, as_calendar(found, until)).keep()
         print(f"{said.ics}: entries {len(found)}")
         return 0
     rows = [own.cells() for own in (found if showing.is_for_programs(said) else folded(found))]
     showing.show(said, COLUMNS, naming.rows_shown(said, COLUMNS, rows, labels.of_folder(office.path)))
     return 0
+
+
+def last_shown(office: Office) -> datetime.date:
+    """The last day that is shown if nobody names one: so many behind the last settled one as office.ini says."""
+    return composing.last_day(office).date + datetime.timedelta(office.settings.due.lead)
+
+
+def as_calendar(found: list[Due], until: datetime.date) -> str:
+    """What is due as a calendar, which other programs take in."""
+    return calendar_of(f"Registry: what is due up to {until}", [(own.date, f"{own.what}: {own.text}") for own in found])
 
 
 def folded(found: list[Due]) -> list[Due]:

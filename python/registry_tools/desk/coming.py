@@ -1,0 +1,59 @@
+"""The page of what is due: as a table, and as a file or a calendar for other programs."""
+import datetime
+import functools
+from typing import Any, Sequence
+
+import flask
+from werkzeug.wrappers import Response
+
+from registry_tools.calendars.dates import date_of
+from registry_tools.desk import gate
+from registry_tools.desk.gate import Served
+from registry_tools.desk.questions import download, file_of
+from registry_tools.desk.reading import Reading
+from registry_tools.desk.shown import asked, show_page
+from registry_tools.office import folder
+from registry_tools.pages.html import link, tag
+from registry_tools.questions import due
+from registry_tools.sheets.writing import Written
+
+COLUMNS = ["Day", "What", "Account", "Record", "More"]
+CALENDAR = "text/calendar; charset=utf-8"
+
+
+def page(served: Served) -> Any:
+    """The page of what is due, and of what is overdue, once a day is settled."""
+    own = served.reading
+    if own.office().last() is None:
+        return gate.said(400, gate.NO_DAY)
+    (found, until), dates = found_until(own), own.office().settings.due
+    rows = [(str(it.date), it.what, it.account, it.record, it.text) for it in due.folded(found)]
+    return show_page(
+        "due", "Due", rows=rows, columns=COLUMNS, until=until, shown_row=functools.partial(cells_of, own),
+        overdue=sum(it.what == due.OVERDUE for it in found), has_dates=any((dates.surrender, dates.emissions)),
+        query=flask.request.query_string.decode("ascii", "replace"),
+    )  # fmt: skip
+
+
+def found_until(own: Reading) -> tuple[list[due.Due], datetime.date]:
+    """What is due up to the day of the address, or as many days ahead as the office says; and that day."""
+    office, word = own.office(), asked("until")
+    until = date_of("the last day", word) if word else due.last_shown(office)
+    state = f"{folder.state_of(office)} {own.state_of_names()} {datetime.date.today()}"
+    return own.once(("due", until), state, lambda: due.due_until(office, until)), until
+
+
+def cells_of(own: Reading, row: Sequence[Any]) -> Sequence[Any]:
+    """The cells of what is due, its account with a link and its name."""
+    date, what, account, *more = row
+    named = link(f"/accounts/{account}", own.names().account(account)) if account else ""
+    return date, tag("strong", what) if what == due.OVERDUE else what, named, *more
+
+
+def as_file(served: Served, kind: str) -> Response:
+    """What is due as a table with all columns of ./day due, or as a calendar."""
+    found, until = found_until(served.reading)
+    if kind == "ics":
+        return download(due.as_calendar(found, until).encode(), CALENDAR, "due.ics")
+    texts = (["" if cell is None else str(cell) for cell in own.cells()] for own in found)
+    return file_of(served, kind, Written("due", [due.COLUMNS.names, *texts]))
