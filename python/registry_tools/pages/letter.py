@@ -7,7 +7,7 @@ from collections.abc import Iterator, Sequence
 from registry_tools.calendars.due_days import NOT_DUE
 from registry_tools.office.labels import ACCOUNT
 from registry_tools.pages.account import entry_parts, facts_of, refused_parts, standing_parts, waiting_parts
-from registry_tools.pages.html import HEAD, PARTS, Cells, Markup, Table, heading, joined, style_of, tag
+from registry_tools.pages.html import HEAD, PARTS, Cells, Markup, Table, facts, heading, joined, style_of, tag
 from registry_tools.pages.rulebook import Rulebook
 from registry_tools.pages.settled import Settled, long_date
 from registry_tools.pages.statement import OF_ANOTHER, DayTold, Own, Statement
@@ -17,6 +17,18 @@ from registry_tools.texts.report import LogRow
 
 DONE_LATER = Table(["Asked for on", "Record", "Instruction", "Why not then", "Done on", "As record"])
 NOT_DUE_YET = "It was not due yet."
+# What the lines of a table are, by their first fields.
+LINES = {
+    "statement": "the last day, and the account with its kind, holder and status behind it",
+    "opening": "what the account held before: its number, general and aviation allowances",
+    "log": (
+        "an instruction: its record, day and day of proposal, who proposed and approved it if they represent the "
+        "account, what was asked, what came of it, and what the account then held"
+    ),
+    "refused": "the record and the day of an instruction of somebody else that was refused",
+    "closing": "what the account held after",
+    "end": "nothing more comes, so the table is whole",
+}
 KEPT = "Keep this page: by its head an auditor sees whether a day up to it was changed later."
 # Sentences that only an administrator can do something about.
 OF_OFFICE = re.compile(
@@ -133,17 +145,19 @@ def parts_of(settled: Settled, statement: LetterStatement) -> Iterator[Markup]:
 
 
 def section_of(
-    settled: Settled, statement: LetterStatement, holder: str, is_taken_over: bool, table: tuple[str, str]
-) -> Markup:
+    settled: Settled, statement: LetterStatement, holder: str, is_taken_over: bool, table: tuple[str, str],
+    is_last: bool,
+) -> Markup:  # fmt: skip
     """An account: its number and holder stand at the head of each page on which it is printed. Its last line tells the
-    name of its statement as a table, and the sum of that."""
+    name of its statement as a table, and the sum of that; behind the last account, what the lines of a table are."""
     own = settled.names.name_of(ACCOUNT, statement.number)
     name = ", ".join(filter(None, [f"Account {statement.number}", own, holder]))
     since = f"This account has had another holder: its statement begins on {long_date(statement.first_day)}."
     lead = [tag("p", since)] if is_taken_over else []
     name_of_table, sum_of_table = table
     told = tag("p", f"The statement as a table: {name_of_table}, whose SHA-256 is {sum_of_table}.", class_="sum")
-    content = joined(tag("h2", f"Account {statement.number}"), *lead, *parts_of(settled, statement), told)
+    lines = [heading("The lines of a table"), facts(LINES.items())] if is_last else []
+    content = joined(tag("h2", f"Account {statement.number}"), *lead, *parts_of(settled, statement), told, *lines)
     head = f"<thead><tr><td>{tag('span', name)}</td></tr></thead>"
     sheet = f"<table class='sheet'>{head}<tbody><tr><td>{content}</td></tr></tbody></table>"
     return Markup(f"<section>{sheet}</section>")
@@ -164,10 +178,11 @@ def letter(
     """The page of a holder: each account from the day at its place on, with the name and the sum of its table; and the
     head of the folder that it was made of."""
     name = settled.names.holder(holder)
-    sections = []
+    sections: list[Markup] = []
     for number, place in places.items():
         statement = LetterStatement(settled, number, days[place:])
-        sections.append(section_of(settled, statement, name, place > 0, tables[number]))
+        is_last = len(sections) + 1 == len(places)
+        sections.append(section_of(settled, statement, name, place > 0, tables[number], is_last))
     begin, end = days[0].date, days[-1].date
     lead = f"From {long_date(begin)} to {long_date(end)}." if begin != end else f"{long_date(end)}."
     return page_of(f"Holder {name}", f"{lead} {head_in_words(head)}{f' {KEPT}' if head else ''}".rstrip(), sections)
