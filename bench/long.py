@@ -38,8 +38,9 @@ gigabyte  settles such a day of 2^30 bytes, with emissions of each year, by one,
 
 `days`, `orders`, `seams` and `changing` end after N minutes (left out: 10) or N texts; the same seed gives the same
 texts. FOLDER is where `limits` and `gigabyte` put their texts, of up to a gigabyte, and where texts on which an answer
-differs are kept (left out: out/long). N jobs run at once (left out: 1). The last line is 'N passed, M failed', which
-counts texts, or runs by `changing`, `limits` and `gigabyte`.
+differs are kept (left out: out/long). N jobs run at once (left out: 1); `orders` mostly waits, so four times as many as
+there are processors are right. The last line is 'N passed, M failed', which counts texts, or runs by `changing`,
+`limits` and `gigabyte`.
 """
 import argparse
 import datetime
@@ -289,8 +290,8 @@ def try_text(task: Task) -> tuple[bytes, int, int, str]:
 
 
 def try_drawn(words: Words) -> Tally:
-    """Tries drawn texts until the time is over. Answers how many passed and failed."""
-    until, passed, failed, runs = time.monotonic() + 60 * words.minutes, 0, 0, 0
+    """Tries drawn texts until the time is over, and says once a minute how many. Answers how many passed and failed."""
+    until, passed, failed, runs, said_at = time.monotonic() + 60 * words.minutes, 0, 0, 0, time.monotonic()
     cases, seeds = (fuzz.first_texts() if words.part == "seams" else []), itertools.count()
     with ProcessPoolExecutor(words.jobs) as pool:
         while time.monotonic() < until and passed + failed < words.count:
@@ -299,6 +300,9 @@ def try_drawn(words: Words) -> Tally:
                 passed, failed, runs = passed + texts - bool(said), failed + bool(said), runs + count
                 if said:
                     print(f"DIFFERS: {fuzz.Corpus.save(words.folder, text)}: {said[:400]}", flush=True)
+            if time.monotonic() - said_at > fuzz.SAY_AFTER:
+                said_at = time.monotonic()
+                print(f"{passed + failed} texts, {runs} runs, {failed} differ", flush=True)
     print(f"{passed + failed} texts, {runs} runs")
     return passed, failed
 
