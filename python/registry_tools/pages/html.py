@@ -15,6 +15,9 @@ FITS, BETWEEN = 38, 2
 ROOMS = {"small": (60, "44rem"), "middle": (92, "62rem"), "dense": (145, "78rem")}
 EVERYWHERE = "everywhere"
 MANY_ROWS = 100
+# A word that is longer, and neither a number nor a date, is broken where there is no room, so that somebody's long name
+# stacks no table.
+LONGEST_WORD = 40
 # Cells of these columns are not broken.
 DATES = {"Day", "At", "Proposed", "Due", "In effect from"}
 
@@ -97,13 +100,14 @@ def sort_key(cell: object) -> tuple[bool, int, str]:
 
 
 def letters_of(columns: Sequence[str], right: Collection[str], rows: Sequence[Cells]) -> int:
-    """How many letters stand beside each other in the row of a table: all of a number, and the longest word of another
-    cell."""
+    """How many letters stand beside each other in the row of a table: all of a number, and of another cell the longest
+    word, as far as it is not broken."""
     # Numbers differ from row to row. Of other cells the first and the last ones show how long they are.
     looked_at, needed = [*rows[:MANY_ROWS], *rows[-MANY_ROWS:]], 0
     for place, name in enumerate(columns):
         cells = {words_in_cell(row[place]) for row in (rows if name in right else looked_at)}
-        words = cells if name in right or name in DATES else {word for cell in cells for word in cell.split()}
+        is_whole = name in right or name in DATES
+        words = cells if is_whole else {word[:LONGEST_WORD] for cell in cells for word in cell.split()}
         needed += max(map(len, {*words, *name.split()})) + BETWEEN
     return needed
 
