@@ -198,7 +198,7 @@ def at_once_trials(work: Path) -> Iterator[Told]:
 
     def send() -> None:
         both.wait()
-        jobs.start("0" * 16, "close", [], "", "", "", False)
+        jobs.start("0" * 16, "close", [], "", "", False)
 
     work.mkdir()
     jobs = Jobs(work, work, begin)

@@ -18,8 +18,9 @@ from reread import FORBIDDEN, Attributes, Page, named
 from registry_tools.desk import app
 from registry_tools.desk.jobs import COMMAND, Started
 from registry_tools.desk.gate import Served
+from registry_tools.desk.heads import SECRET_HEADER, Proxy
 
-HOST = "127.0.0.1:8424"
+HOST, SECRET = "127.0.0.1:8424", "a-secret-of-these-trials-alone"
 # What no page says: commands, their options, and paths of the disk. Documents tell of commands; and what the trials
 # type into forms is shown as it was typed.
 OF_COMMANDS = re.compile(
@@ -179,7 +180,8 @@ class Desk:
     def __init__(self, office: Path, private: Path, **more: Any) -> None:
         who, header, is_look = more.get("who"), more.get("header"), more.get("is_look", False)
         private.mkdir(parents=True, exist_ok=True)
-        self.office, self.served = office, Served(office, HOST, private, who, header, is_look)
+        proxy = Proxy(header, SECRET) if header else None
+        self.office, self.served = office, Served(office, HOST, private, who, proxy, is_look)
         self.app = app.make(self.served)
         # (a fault in the desk is one here, and not a page that says so)
         self.app.config["PROPAGATE_EXCEPTIONS"] = True
@@ -196,7 +198,7 @@ class Person:
 
     def __init__(self, desk: Desk, headers: dict[str, str] | None = None) -> None:
         self.desk, self.client = desk, desk.app.test_client()
-        self.headers = {"Host": HOST, **(headers or {})}
+        self.headers = {"Host": HOST, **({SECRET_HEADER: SECRET} if desk.served.proxy else {}), **(headers or {})}
 
     def ask(self, method: str, path: str, headers: dict[str, str] | None = None, **more: Any) -> Answer:
         own = {**self.headers, **(headers or {})}

@@ -160,10 +160,17 @@ def engine_trials(work: Path) -> Iterator[Trial]:
     program.chmod(0o755)
     settings = office / "office.ini"
     settings.write_text(settings.read_text().replace("program =", f"program = {program}"))
+    proved = "proved and built with kit 1\n"
+    own_sum = f"sha256: {hashlib.sha256(program.read_bytes()).hexdigest()} program\n"
+    other_sum = f"sha256: {hashlib.sha256(b'other').hexdigest()} program\n"
     for text, row, words in (
         ("", "program 1.9 - unproved", "the program 1.9, not proved"),
-        (f"source: commit {COMMIT}, with changes\nproved and built with kit 1\n", f"program 1.9 {COMMIT}+ proved",
+        (f"source: commit {COMMIT}, with changes\n{proved}{own_sum}", f"program 1.9 {COMMIT}+ proved",
          f"the program 1.9 of commit {COMMIT} with changes, proved"),
+        (f"source: commit {COMMIT}\n{proved}", f"program 1.9 {COMMIT} unproved",
+         f"the program 1.9 of commit {COMMIT}, not proved"),
+        (f"source: commit {COMMIT}\n{proved}{other_sum}", f"program 1.9 {COMMIT} unproved",
+         f"the program 1.9 of commit {COMMIT}, not proved"),
         (f"source: commit {COMMIT}\nNOT PROVED: linked\n", f"program 1.9 {COMMIT} unproved",
          f"the program 1.9 of commit {COMMIT}, not proved"),
     ):  # fmt: skip
@@ -322,9 +329,10 @@ def signalled(target: str, words: Words) -> tuple[int | str | None, str]:
     replace = os.replace
     done: list[str] = []
 
-    def then_interrupted(old: str, new: str) -> None:
-        replace(old, new)
-        if str(new) == target and not done:
+    def then_interrupted(old: str, new: str, src_dir_fd: int | None = None, dst_dir_fd: int | None = None) -> None:
+        replace(old, new, src_dir_fd=src_dir_fd, dst_dir_fd=dst_dir_fd)
+        where = "" if dst_dir_fd is None else os.readlink(f"/proc/self/fd/{dst_dir_fd}")
+        if os.path.join(where, new) == target and not done:
             done.append(new)
             os.kill(os.getpid(), signal.SIGINT)
 

@@ -159,26 +159,47 @@ def rights_trials(work: Path) -> Iterator[Told]:
         "close": (["close", "--date", TUESDAY], {"eva"}), "undo": (["undo", MONDAY, *WHY], {"eva"}),
         "correct": (["correct", MONDAY, "--without", "61007", "--second", "--yes", *WHY], {"eva"}),
         "mend": (["mend", MONDAY], {"eva"}), "release": (["release", MONDAY, "--yes", *WHY], {"finn"}),
-        "init": (["init", str(office), str(WEEK / "monday.csv")], set()),
     }  # fmt: skip
     kept = work / "kept"
     shutil.copytree(office, kept)
     for name, (words, may) in commands.items():
-        where = [] if name == "init" else own
         for login in (*PEOPLE, "zoe", None):
             told_as = of(login) if login else []
-            if login in may | {"anna", "bert"} and name != "init":
-                yield f"{name} by {login}", told(0, [], *words, *told_as, *where)
+            if login in may | {"anna", "bert"}:
+                yield f"{name} by {login}", told(0, [], *words, *told_as, *own)
                 shutil.rmtree(office)
                 shutil.copytree(kept, office)
-            elif name != "init":
+            else:
                 has = refusal_of(login)
-                yield f"{name} by {login}", unchanged(office, 2, has, *words, *told_as, *where)
+                yield f"{name} by {login}", unchanged(office, 2, has, *words, *told_as, *own)
+    yield from first_text_rights_trials(work)
     yield "a stranger is told", told(2, ["zoe is no login that office.ini names"], *CHANGE, *of("zoe"), *own)
     has = ["Gerd Pohl (gerd) may look, and not change: office.ini says so; Anna Berg (anna) or"]
     yield "who may is told", told(2, has, *CHANGE, *of("gerd"), *own)
-    for words in (["status"], ["try"], ["audit"], ["approve"], ["find", "--refused"], ["changes"]):
-        yield f"everybody looks: {words[0]}", unchanged(office, 0, [], *words, *own) if words != ["try"] else None
+    for words in (["status"], ["audit"], ["approve"], ["find", "--refused"], ["changes"]):
+        yield f"everybody looks: {words[0]}", unchanged(office, 0, [], *words, *own)
+    # (it keeps what was seen, so that the next look marks what is new)
+    yield "everybody looks: try", told(0, ["as it stands, on 2025-09-23: done "], "try", *own)
+
+
+def first_text_rights_trials(work: Path) -> Iterator[Told]:
+    """Another first text is a change, and a hand-in if it has instructions. Where one of them waits for another login,
+    it is neither."""
+    office, with_acts = work / "first-rights", WEEK / "monday.csv"
+    rows = with_acts.read_text().splitlines()
+    without = file_of(work, "without.csv", "\n".join(row for row in rows if not row.startswith("do,")))
+    must_do(["init", str(office), str(without)])
+    with_lines(office, desk())
+    for login in (*PEOPLE, "zoe", None):
+        told_as = of(login) if login else []
+        for path, may in ((without, {"anna", "bert", "dan"}), (with_acts, {"anna", "bert"})):
+            words = ["init", str(office), str(path), *told_as]
+            allowed = told(0, ["the first text is that of"], *words) if login in may else None
+            yield f"init by {login}", allowed if login in may else unchanged(office, 2, refusal_of(login), *words)
+    with_four = shutil.copytree(office, work / "first-four-eyes")
+    with_lines(with_four, {}, "change")
+    alone = ["init", str(with_four), str(without), *of("anna")]
+    yield "init where a change waits", unchanged(with_four, 2, ["a first text cannot", "make a new folder"], *alone)
 
 
 def refusal_of(login: str | None) -> list[str]:
@@ -428,13 +449,15 @@ def proved_as(office: Path) -> None:
 # Forged approvals.
 
 
-def forged_trials(work: Path) -> Iterator[Told]:
-    """An approval that the login which it names has not given approves nothing, and is told."""
-    base, _ = settled(work, "forged", "change")
-    own = ["--office", str(base)]
+Forged = Callable[[Callable[[], object]], object]
+
+
+def approved_change(work: Path) -> tuple[Path, Path, Forged]:
+    """A folder with a change that was approved, where the approval lies in a copy of it, and what is wrong with what
+    commands say of that copy behind a change of the approval."""
+    base, own = settled(work, "forged", "change")
     must_do([*CHANGE, *of("anna"), *own], ["approve", "1", *of("bert"), *own])
     good = next(path for path in (base / "next").iterdir() if path.name.startswith("approved-"))
-    row, login = good.read_text(), people.system_login()
     office = work / "broken"
     own = ["--office", str(office)]
     there = office / "next" / good.name
@@ -450,6 +473,13 @@ def forged_trials(work: Path) -> Iterator[Told]:
                 return wrong
         return told(0, ["place 1, change by"], "approve", *own)
 
+    return base, there, forged
+
+
+def forged_trials(work: Path) -> Iterator[Told]:
+    """An approval that the login which it names has not given approves nothing, and is told."""
+    base, there, forged = approved_change(work)
+    row, login, office = (base / "next" / there.name).read_text(), people.system_login(), there.parents[1]
     yield "the one that is good", told(0, ["nothing waits"], "approve", "--office", base)
     yield "a login for which nobody spoke", forged(lambda: write_as(there, row, f"{login}:bert", "bert"))
     yield "another login of the system", forged(lambda: write_as(there, row, f"{login}:bert", "daemon"))
@@ -461,7 +491,6 @@ def forged_trials(work: Path) -> Iterator[Told]:
     yield "two rows", forged(lambda: there.write_text(row * 2))
     yield "nothing", forged(lambda: there.write_text(""))
     yield "a folder", forged(lambda: made_a_folder(there))
-    yield from owner_trials(forged, there)
     yield from not_any_more_trials(base, office)
     # (who writes what is asked for in the name of another one still needs a second login)
     asked = work / "forged" / "next" / f"asked-close-{TUESDAY}.csv"
@@ -505,10 +534,12 @@ def linked(path: Path) -> None:
     path.symlink_to(aside)
 
 
-def owner_trials(forged: Callable[[Callable[[], object]], object], there: Path) -> Iterator[Told]:
-    """A file that is right but for its owner."""
+def owner_trials(work: Path) -> Iterator[Told]:
+    """A file that is right but for its owner. Raises LeftOut where this process can't make one."""
     if os.getuid() != 0:
         raise LeftOut("only root gives a file to another login")
+    work.mkdir()
+    _, there, forged = approved_change(work)
     other = pwd.getpwnam("nobody")
     yield "a file of another login", forged(lambda: os.chown(there, other.pw_uid, other.pw_gid))
 
@@ -589,5 +620,6 @@ def as_login(login: str, words: list[str], more: dict[str, str]) -> tuple[int, s
 def open_to_all(office: Path, but_approvals: bool = False) -> None:
     """Lets every login write a folder, as one group would."""
     for path in (office, *office.rglob("*")):
-        if not (but_approvals and handed.OF_APPROVALS.fullmatch(path.name)):
+        # (what a login says in a file of its own, nobody else may write)
+        if not (but_approvals and path.name.startswith(("asked-", "approved-", "said-"))):
             path.chmod(0o777 if path.is_dir() else 0o666)

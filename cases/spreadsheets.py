@@ -167,20 +167,27 @@ def damaged_workbooks(work: Path) -> Iterator[tuple[str, object]]:
     with zipfile.ZipFile(path) as archive:
         parts = {name: archive.read(name) for name in archive.namelist()}
     content = path.read_bytes()
-    for what, place, byte in (("locked", 6, 1), ("packed in an unknown way", 8, 97), ("no packed bytes", 8, 8)):
+    for what, place, byte, wanted in (
+        ("locked", 6, 1, NONE), ("packed in an unknown way", 8, 97, "found packing 97; expected a part that is stored"),
+        ("no packed bytes", 8, 8, NONE),
+    ):  # fmt: skip
         path.write_bytes(with_byte_of_headers(content, place, byte))
-        yield f"a workbook: {what}", told_of_workbook(path)
-    for name, old, new in OTHER_PARTS:
+        yield f"a workbook: {what}", told_of_workbook(path, wanted)
+    for name, old, new, wanted in OTHER_PARTS:
         with zipfile.ZipFile(path, "w") as archive:
             for part, text in parts.items():
                 archive.writestr(part, text.replace(old, new) if part == name else text)
-        yield f"a workbook with {new.decode()}", told_of_workbook(path)
+        yield f"a workbook with {new.decode()}", told_of_workbook(path, wanted)
 
 
-def told_of_workbook(path: Path) -> object:
+NONE = "this is no workbook that can be read: "
+
+
+def told_of_workbook(path: Path, wanted: str) -> object:
     """What is wrong with how a workbook that cannot be read is told, if something is."""
     said = Said("import", path)
-    return None if said.status == 3 and f"{path}: this is no workbook that can be read: " in said.errors else said
+    is_so = said.status == 3 and said.errors.startswith(f"{path}: ") and wanted in said.errors
+    return None if is_so else said
 
 
 def with_byte_of_headers(content: bytes, place: int, byte: int) -> bytes:
@@ -193,11 +200,11 @@ def with_byte_of_headers(content: bytes, place: int, byte: int) -> bytes:
 
 
 SHEET_PART = "xl/worksheets/sheet1.xml"
-# A part of a workbook, what stands in it, and what stands in its place that no spreadsheet writes.
+# A part of a workbook, what stands in it, what stands in its place that no spreadsheet writes, and what is told then.
 OTHER_PARTS = (
-    ("xl/workbook.xml", b'encoding="UTF-8"', b'encoding="none-such"'),
-    (SHEET_PART, b'<row r="2">', b'<row r="1048577">'),
-    (SHEET_PART, b'<c r="B2">', b'<c r="XFE2">'),
+    ("xl/workbook.xml", b'encoding="UTF-8"', b'encoding="none-such"', NONE),
+    (SHEET_PART, b'<row r="2">', b'<row r="1048577">', "rows: found more than 1,048,576; expected at most 1,048,576"),
+    (SHEET_PART, b'<c r="B2">', b'<c r="XFE2">', "columns: found more than 16,384; expected at most 16,384"),
 )
 
 

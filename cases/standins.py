@@ -1,4 +1,5 @@
 """Stand-ins for the program and the library, for trials of what is made of them: both answer by the second answer."""
+import hashlib
 import shutil
 import subprocess
 from pathlib import Path
@@ -88,7 +89,24 @@ struct registry_answer registry_version_string(char *room, size_t most) {{
 WORD(cause_word)
 WORD(refusal_word)
 WORD(refusal_sentence)
+WORD(field_name)
+
+struct registry_answer registry_fault_sentence(uint32_t cause, uint32_t column, char *room, size_t most) {{
+  (void)cause, (void)column;
+  return told("A sentence.", room, most);
+}}
+
+struct registry_place registry_find_fault(const char *day, size_t length) {{
+  struct registry_answer made = registry_settle(day, length, NULL, 0);
+  struct registry_place at = {{made.status, made.cause, made.row, 0, 0}};
+  return at;
+}}
 """
+
+
+def sums_of(*paths: Path) -> str:
+    """The lines of a note with the sums of what was built."""
+    return "".join(f"sha256: {hashlib.sha256(path.read_bytes()).hexdigest()} {path.name}\n" for path in paths)
 
 
 def build_library(folder: Path) -> bool:
@@ -97,7 +115,6 @@ def build_library(folder: Path) -> bool:
     for path in (lib / "pkgconfig", include):
         path.mkdir(parents=True, exist_ok=True)
     shutil.copy(TOP / "include/registry.h", include)
-    (lib / "registry.source").write_text(NOTE + PROVED)
     (lib / "pkgconfig/registry.pc").write_text(
         "prefix=${pcfiledir}/../..\nName: registry\nDescription: The settlement engine\n"
         f"Version: {VERSION}\nCflags: -I${{prefix}}/include\nLibs: -L${{prefix}}/lib -lregistry\n"
@@ -105,8 +122,17 @@ def build_library(folder: Path) -> bool:
     for name in ("libregistry.a", "libregistry.so.1"):
         (lib / name).write_text("library")
     (lib / "libregistry.so").symlink_to("libregistry.so.1")
-    if shutil.which("cc") is None:
-        return False
+    has_compiler = shutil.which("cc") is not None
+    if has_compiler:
+        compile_library(folder)
+    sums = sums_of(lib / "libregistry.a", lib / "libregistry.so.1")
+    (lib / "registry.source").write_text(NOTE + PROVED + sums)
+    return has_compiler
+
+
+def compile_library(folder: Path) -> None:
+    """Builds the stand-in for the library, static and shared."""
+    lib, include = folder / "lib", folder / "include"
     source = folder / "standin.c"
     source.write_text(LIBRARY)
     words: list[str | Path] = ["cc", "-fPIC", "-O1", f"-I{include}"]
@@ -118,4 +144,3 @@ def build_library(folder: Path) -> bool:
     subprocess.run(["ar", "rcsD", lib / "libregistry.a", objects], check=True)
     source.unlink()
     objects.unlink()
-    return True

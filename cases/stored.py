@@ -19,7 +19,7 @@ MORE_WORKERS = (b"1", b"2", b"8")
 FAULT_STATUS = 3
 PARTS = (".csv", ".args", ".stdout", ".stderr", ".status")
 # What the scripts of a folder share, and what Python makes of it.
-MODULES = (".py", ".pyc")
+MODULES = (".py", ".pyc", ".java")
 ESCAPES = {b"n": b"\n", b"r": b"\r", b"\\": b"\\"}
 
 

@@ -23,10 +23,11 @@
  *   not, the room is unchanged, and the answer has the length that is needed: 0 bytes of room ask for it. The bytes
  *   behind the text, and after a fault all bytes of the room, are as they were.
  *
- * A call takes memory by malloc and realloc and gives all of it back by free. It has no state, starts no thread, takes
- * no lock, and uses no file and no stream. So calls may come from several threads at once, each with a room of its own;
- * day texts may be shared. Not from a signal handler, and not in a forked child of a process with several threads. A
- * call needs less than 128 KiB of the stack of its thread, however long the day text is.
+ * A call takes memory by malloc and realloc and gives all of it back by free: of a row with very many fields, such as a
+ * text of commas, some 25 bytes for each byte. If there is not so much, it answers REGISTRY_NO_MEMORY. It has no state,
+ * starts no thread, takes no lock, and uses no file and no stream. So calls may come from several threads at once, each
+ * with a room of its own; day texts may be shared. Not from a signal handler, and not in a forked child of a process
+ * with several threads. A call needs less than 128 KiB of the stack of its thread, however long the day text is.
  *
  * The library was proved to answer as it is said here (crates/registry_c), if the caller gives what is asked for above:
  * no call tests that. This header is written by hand, and cases/run-library compares it with the crate.
@@ -77,6 +78,16 @@ struct registry_answer {
   size_t length;   /* after REGISTRY_DONE the bytes of the text, also if there was no room for them, else 0 */
 };
 
+/* Where the first fault of a day text stands. */
+struct registry_place {
+  uint32_t status; /* REGISTRY_DONE if the text has no fault, REGISTRY_FAULT, or REGISTRY_NO_MEMORY */
+  uint32_t cause;  /* after REGISTRY_FAULT one of enum registry_cause, else 0 */
+  uint64_t row;    /* after REGISTRY_FAULT the number of the row, as in struct registry_answer, else 0 */
+  uint32_t field;  /* the number of the faulty field in its row, counted from 1: the tag is 1. 0 if the fault is the
+                      row's as a whole */
+  uint32_t column; /* what stands in this field: registry_field_name has its name. 0 if field is 0 */
+};
+
 /* Settles the day: its report, which has the log, the accounts after the day, and the totals. The same day gives the
  * same bytes as `registry settle`. Instructions that are refused are no fault: the log says why. */
 struct registry_answer registry_settle(const char *day, size_t day_length, char *room, size_t room_length);
@@ -113,6 +124,10 @@ struct registry_answer registry_figures(const char *day, size_t day_length, char
 /* What all accounts together hold, have surrendered and have deleted after the day, as `registry totals`. */
 struct registry_answer registry_totals(const char *day, size_t day_length, char *room, size_t room_length);
 
+/* Where the first fault of these bytes stands. Status, cause and row are those that the calls above tell. The field is
+ * looked for a second time, in this row alone: that it is the right one was tested, and not proved. */
+struct registry_place registry_find_fault(const char *day, size_t day_length);
+
 /* The words of the texts, so that no caller needs a table of its own. Each is always done, takes no memory, and writes
  * into the room as the calls above do. A number that names nothing has the empty text. */
 
@@ -128,6 +143,13 @@ struct registry_answer registry_refusal_word(uint32_t code, char *room, size_t r
 
 /* Why the check with this code refuses an instruction, in an English sentence. It names no account and no amount. */
 struct registry_answer registry_refusal_sentence(uint32_t code, char *room, size_t room_length);
+
+/* The name of a column (column of struct registry_place), as docs/FORMATS.md has it: `PROPOSED`. At most 11 bytes. */
+struct registry_answer registry_field_name(uint32_t column, char *room, size_t room_length);
+
+/* What is wrong by this cause in this column, in an English sentence: what is wanted there. A column that there is not,
+ * such as 0, stands for the row as a whole. At most 128 bytes. */
+struct registry_answer registry_fault_sentence(uint32_t cause, uint32_t column, char *room, size_t room_length);
 
 /* The version of the library's interface, to be compared with REGISTRY_VERSION. */
 uint32_t registry_version(void);

@@ -57,8 +57,12 @@ ssize_t pwrite64(int file, const void *bytes, size_t count, off64_t at) {
 int fdatasync(int file) { return fails() ? -1 : REAL(fdatasync)(file); }
 int fsync(int file) { return fails() ? -1 : REAL(fsync)(file); }
 int ftruncate64(int file, off64_t length) { return fails() ? -1 : REAL(ftruncate64)(file, length); }
+int renameat(int of, const char *from, int in, const char *to) {
+  return fails() ? -1 : REAL(renameat)(of, from, in, to);
+}
 int rename(const char *from, const char *to) { return fails() ? -1 : REAL(rename)(from, to); }
 int mkdir(const char *path, mode_t mode) { return fails() ? -1 : REAL(mkdir)(path, mode); }
+int mkdirat(int folder, const char *path, mode_t mode) { return fails() ? -1 : REAL(mkdirat)(folder, path, mode); }
 int rmdir(const char *path) { return fails() ? -1 : REAL(rmdir)(path); }
 int unlink(const char *path) { return fails() ? -1 : REAL(unlink)(path); }
 int unlinkat(int folder, const char *path, int flags) { return fails() ? -1 : REAL(unlinkat)(folder, path, flags); }
@@ -74,4 +78,16 @@ int open64(const char *path, int flags, ...) {
     if (fails()) return -1;
   }
   return REAL(open64)(path, flags, mode);
+}
+
+int openat64(int folder, const char *path, int flags, ...) {
+  mode_t mode = 0;
+  if (flags & O_CREAT) {
+    va_list rest;
+    va_start(rest, flags);
+    mode = va_arg(rest, mode_t);
+    va_end(rest);
+    if (fails()) return -1;
+  }
+  return REAL(openat64)(folder, path, flags, mode);
 }

@@ -2,7 +2,8 @@
 
 usage: jars.py LIBRARY FOLDER
 
-LIBRARY is a folder that `tools/library` has made. The jar is FOLDER/registry-VERSION.jar; equal files give equal ones.
+LIBRARY is a folder that `tools/library` has made. The jar is FOLDER/registry-VERSION.jar, and beside it is what Maven
+asks for, FOLDER/registry-VERSION.pom; equal files give equal ones.
 It needs javac and the headers of its JDK, of 17 or later, and a C compiler, cc.
 """
 import os
@@ -14,6 +15,7 @@ import zipfile
 from collections.abc import Iterator
 from pathlib import Path
 
+sys.path.append(str(Path(__file__).resolve().parent))
 import versions
 
 TOP = Path(__file__).resolve().parent.parent
@@ -22,6 +24,21 @@ JAVA = TOP / "examples" / "java"
 RELEASE = "17"
 # No file has a time of its own.
 TIME = (1980, 1, 1, 0, 0, 0)
+# How Maven calls the jar: `mvn install:install-file -Dfile=registry-VERSION.jar -DpomFile=registry-VERSION.pom`.
+PROJECT = "META-INF/maven/registry/registry/pom.xml"
+POM = """\
+<?xml version="1.0" encoding="UTF-8"?>
+<project xmlns="http://maven.apache.org/POM/4.0.0">
+  <modelVersion>4.0.0</modelVersion>
+  <groupId>registry</groupId>
+  <artifactId>registry</artifactId>
+  <version>{version}</version>
+  <packaging>jar</packaging>
+  <name>registry</name>
+  <description>The proved settlement engine of an emission allowance registry</description>
+  <properties><maven.compiler.release>{release}</maven.compiler.release></properties>
+</project>
+"""
 # What Java calls a machine that `uname -m` calls otherwise.
 MACHINES = {"x86_64": "amd64"}
 
@@ -62,6 +79,7 @@ def parts(library: Path, jdk: Path, work: Path) -> Iterator[tuple[str, bytes]]:
         "Manifest-Version: 1.0\r\nImplementation-Title: registry\r\n"
         f"Implementation-Version: {version}\r\nAutomatic-Module-Name: registry\r\n\r\n"
     ).encode()
+    yield PROJECT, POM.format(version=version, release=RELEASE).encode()
     compile_classes(work / "classes")
     compile_shim(library, jdk, work / "classes/registry" / platform() / "libregistry_jni.so")
     for path in sorted(path for path in (work / "classes").rglob("*") if path.is_file()):
@@ -74,6 +92,7 @@ def make(library: Path, folder: Path, jdk: Path) -> Path:
     """Makes the jar, and answers its path."""
     folder.mkdir(parents=True, exist_ok=True)
     made = folder / f"registry-{versions.version_of(TOP)}.jar"
+    made.with_suffix(".pom").write_text(POM.format(version=versions.version_of(TOP), release=RELEASE), encoding="utf-8")
     with tempfile.TemporaryDirectory() as work, zipfile.ZipFile(made, "w", zipfile.ZIP_DEFLATED) as archive:
         for name, content in parts(library, jdk, Path(work)):
             archive.writestr(zipfile.ZipInfo(name, TIME), content, zipfile.ZIP_DEFLATED)

@@ -32,8 +32,8 @@ from dataclasses import dataclass, field
 from pathlib import Path
 from types import FrameType
 
+sys.path += [str(Path(__file__).resolve().parent), os.environ["RTLIB"]]
 import rtlib
-
 from wrong_bodies import PARTS, Copy, Edit, Planting, Unplaced, edit_files, read_edit
 
 TOP = Path(__file__).resolve().parent.parent

@@ -8,6 +8,7 @@ again before it builds a library above them. The sources must be those that `rt 
 import os
 import sys
 
+sys.path.append(os.environ["RTLIB"])
 import rtlib
 
 USAGE = str(__doc__).split("\n\n")[1]

@@ -32,7 +32,38 @@ newer_source() {
   find "${parts[@]}" -newer "$1" -print -quit
 }
 
-# Says why the program has to be built. Says nothing if it is there, and newer than all that it is made of.
+# The lines of a note of a build for these files: the SHA-256 of each, and its name.
+sums_for_note() {
+  local file sum
+  for file in "$@"; do
+    sum=$(sha256sum <"$file") || return
+    echo "sha256: ${sum%% *} ${file##*/}"
+  done
+}
+
+# Says why nothing proves the file $1, by the note of its build, $2. Says nothing if the note says that it was proved, and has
+# the SHA-256 of its bytes. python/registry_tools/proof.py tells the same.
+doubt_of() {
+  local sum name=${1#"$top"/} note=${2#"$top"/}
+  ! tail -c 512 -- "$1" | grep -aqF 'NOT PROVED' || {
+    echo "$name says in its last lines that it is NOT PROVED"
+    return
+  }
+  grep -qs '^proved and built with ' -- "$2" && ! grep -qi 'not proved' -- "$2" || {
+    echo "nothing says that $name is proved"
+    return
+  }
+  grep -q '^sha256: ' -- "$2" || {
+    echo "$note has no SHA-256 of $name: an older version wrote it"
+    return
+  }
+  sum=$(sha256sum <"$1") || return
+  grep -qx "sha256: ${sum%% *} [^ ]*" -- "$2" ||
+    echo "$name is not the file that was proved: its SHA-256 begins ${sum:0:12}, which $note does not have"
+}
+
+# Says why the program has to be built. Says nothing if it is there, newer than all that it is made of, and the file that was
+# proved.
 reason_to_build() {
   local newer
   [ -x "$program" ] || {
@@ -40,16 +71,30 @@ reason_to_build() {
     return
   }
   newer=$(newer_source "$program")
-  [ -z "$newer" ] || echo "${newer#"$top"/} is newer than the program"
-}
-
-# Says which commit the sources of the program are, and whether they were changed since.
-source_of() {
-  local commit
-  commit=$(git -C "$top" rev-parse --short=12 HEAD 2>/dev/null) || {
-    echo "source: no commit of git"
+  [ -z "$newer" ] || {
+    echo "${newer#"$top"/} is newer than the program"
     return
   }
+  doubt_of "$program" "$built_from"
+}
+
+# Says which commit the sources of the program are, and whether they were changed since. Without git, the file COMMIT of an
+# archive that git has made tells the commit, and nobody whether they were changed.
+source_of() {
+  local commit archived
+  if ! commit=$(git -C "$top" rev-parse --short=12 HEAD 2>&1); then
+    read -r archived 2>/dev/null <"$top/COMMIT" || archived=
+    if [[ $archived =~ ^[0-9a-f]{40}$ ]]; then
+      echo "source: an archive of commit ${archived:0:12}"
+    elif ! command -v git >/dev/null; then
+      echo "source: not known, since git is not here"
+    elif [[ $commit == *'dubious ownership'* ]]; then
+      echo "source: not known, since git takes nothing of another owner: git config --global --add safe.directory $top"
+    else
+      echo "source: no commit of git"
+    fi
+    return
+  fi
   if [ -z "$(git -C "$top" status --porcelain -- crates crates.txt 2>/dev/null)" ]; then
     echo "source: commit $commit"
   else
@@ -67,13 +112,14 @@ keep_program() {
   cp -- "$built" "$copy" && "$copy" settle <"$top/examples/first-transfer.csv" >/dev/null &&
     touch -r "$1" -- "$copy" && mv -f -- "$copy" "$program" || status=1
   rm -f -- "$copy"
-  [ "$status" != 0 ] || printf '%s\nproved and built with %s\n' "$2" "$(rt version)" >"$built_from"
+  [ "$status" != 0 ] ||
+    printf '%s\nproved and built with %s\n%s\n' "$2" "$(rt version)" "$(sums_for_note "$program")" >"$built_from"
   return "$status"
 }
 
 # Says why the library for other languages has to be built. Says nothing if it is there, and newer than all that it is made of.
 reason_to_build_library() {
-  local made=$library/lib/libregistry.a parts=("$top/crates.txt" "$top/include" "$top/tools/library") crate part newer
+  local made=$library/lib/libregistry.a note=$library/lib/registry.source parts=("$top/crates.txt" "$top/include" "$top/tools/library") crate part newer
   [ -e "$made" ] || {
     echo "there is no library"
     return
@@ -84,7 +130,16 @@ reason_to_build_library() {
     done
   done
   newer=$(find "${parts[@]}" -newer "$made" -print -quit)
-  [ -z "$newer" ] || echo "${newer#"$top"/} is newer than the library"
+  [ -z "$newer" ] || {
+    echo "${newer#"$top"/} is newer than the library"
+    return
+  }
+  for part in "$made" "$library/lib/libregistry.so"; do
+    [ -z "$(doubt_of "$part" "$note")" ] || {
+      doubt_of "$part" "$note"
+      return
+    }
+  done
 }
 
 # Builds the library beside the program, unless that was done and nothing has changed. The program stands without it.

@@ -1,4 +1,4 @@
-/* The native method of registry.Registry: copies the day text out of the Java heap, asks the library, and copies the
+/* The native methods of registry.Registry: copies the day text out of the Java heap, asks the library, and copies the
  * text back. No array of Java is locked while the library works. */
 #include <jni.h>
 #include <registry.h>
@@ -48,6 +48,14 @@ static jbyteArray text_of(JNIEnv *env, struct registry_answer *answer, const cha
   return text;
 }
 
+/* Status, cause and row, and of a fault its field and the column of this field. */
+static void tell(JNIEnv *env, jlongArray told, struct registry_answer answer, const char *day, size_t length) {
+  struct registry_place place = {0, 0, 0, 0, 0};
+  if (answer.status == REGISTRY_FAULT) place = registry_find_fault(day, length);
+  jlong values[] = {answer.status, answer.cause, (jlong)answer.row, place.field, place.column};
+  (*env)->SetLongArrayRegion(env, told, 0, sizeof values / sizeof *values, values);
+}
+
 JNIEXPORT jbyteArray JNICALL Java_registry_Registry_call(JNIEnv *env, jclass self, jint number, jbyteArray bytes,
                                                          jint account, jbyteArray date, jlongArray told) {
   (void)self;
@@ -61,12 +69,9 @@ JNIEXPORT jbyteArray JNICALL Java_registry_Registry_call(JNIEnv *env, jclass sel
     answer = ask_with_room(asked, day, (size_t)length, &room);
   }
   jbyteArray text = text_of(env, &answer, room);
+  if (!(*env)->ExceptionCheck(env)) tell(env, told, answer, day, (size_t)length);
   free(room);
   free(day);
-  if (!(*env)->ExceptionCheck(env)) {
-    jlong values[] = {answer.status, answer.cause, (jlong)answer.row};
-    (*env)->SetLongArrayRegion(env, told, 0, 3, values);
-  }
   return text;
 }
 
@@ -76,16 +81,18 @@ JNIEXPORT jlong JNICALL Java_registry_Registry_most(JNIEnv *env, jclass self, jl
   return most < INT64_MAX ? (jlong)most : INT64_MAX;
 }
 
-/* Words that the library tells, whatever it is asked: the version of the engine, the word of a cause, and the name and
- * the sentence of a check. */
-JNIEXPORT jstring JNICALL Java_registry_Registry_words(JNIEnv *env, jclass self, jint which, jint number) {
+/* Words that the library tells, whatever it is asked: the version of the engine, the word of a cause, the name and the
+ * sentence of a check, the name of a column, and what is wrong by a cause in a column. */
+JNIEXPORT jstring JNICALL Java_registry_Registry_words(JNIEnv *env, jclass self, jint which, jint number, jint column) {
   (void)self;
   char room[129];
   uint32_t asked = (uint32_t)number;
   struct registry_answer answer = which == 0   ? registry_version_string(room, 128)
                                   : which == 1 ? registry_cause_word(asked, room, 128)
                                   : which == 2 ? registry_refusal_word(asked, room, 128)
-                                               : registry_refusal_sentence(asked, room, 128);
+                                  : which == 3 ? registry_refusal_sentence(asked, room, 128)
+                                  : which == 4 ? registry_field_name(asked, room, 128)
+                                               : registry_fault_sentence(asked, (uint32_t)column, room, 128);
   room[answer.length <= 128 ? answer.length : 0] = 0;
   return (*env)->NewStringUTF(env, room);
 }

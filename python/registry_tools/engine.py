@@ -62,11 +62,13 @@ class Program:
         """The report of a day. Raises NotSettled if the program does not settle it, and WordsFault if it cannot be
         run."""
         try:
-            # (a name without a slash is looked for elsewhere, also if such a file is here)
-            path = os.path.abspath(self.name) if os.path.isfile(self.name) else self.name
-            run = subprocess.run([path, "settle"], input=day, capture_output=True, check=False)
+            # (a name without a slash is looked for on the PATH alone, as by a shell: whoever leaves a file where
+            # somebody works has it run otherwise)
+            run = subprocess.run([self.name, "settle"], input=day, capture_output=True, check=False)
         except OSError as error:
-            raise WordsFault(f"{self.option} {self.name} cannot be run: {error.strerror}") from None
+            is_here = os.sep not in self.name and os.path.isfile(self.name)
+            here = f"; ./{self.name} is the file of this folder" if is_here else ""
+            raise WordsFault(f"{self.option} {self.name} cannot be run: {error.strerror}{here}") from None
         if run.returncode:
             said = run.stderr.decode(errors="replace").strip()
             raise NotSettled(f"{self.name} settle ends with status {run.returncode}: {said}")

@@ -16,19 +16,36 @@ class WordsFault(Exception):
     status = WORDS
 
 
+class LateFault(WordsFault):
+    """Somebody else changed the folder first: what was asked for may still be wanted."""
+
+
+class RightsFault(WordsFault):
+    """Who asks may not do it: why, and what is said behind it of this command."""
+
+    def __init__(self, why: str, end: str = "") -> None:
+        super().__init__(f"{why}{end}")
+        self.why = why
+
+
 class FileFault(Exception):
     """A file is not what it must be: where, the name of the field or row, what was found there, and what was expected.
     If the whole file is meant, `found` says all."""
 
     status = FILE
-    # Of something that was handed in, its place.
+    # Of something that was handed in, its place; and the way out, if there is one.
     place: int | None = None
+    way = ""
 
     def __init__(self, path: str | Path, line: int, field: str, found: object, expected: str) -> None:
         super().__init__(path, line, field, found, expected)
         self.path, self.line, self.field, self.found, self.expected = path, line, field, found, expected
 
     def __str__(self) -> str:
+        return f"{self.without_way()}; {self.way}" if self.way else self.without_way()
+
+    def without_way(self) -> str:
+        """What is wrong, without the way out: who shows it otherwise has another one."""
         place = f"{self.path}:{self.line}" if self.line else str(self.path)
         if not self.expected:
             return f"{place}: {self.found}"

@@ -6,9 +6,10 @@ import importlib
 import re
 import signal
 import sys
+from pathlib import Path
 from typing import Protocol, cast
 
-from registry_tools import steps, streams, tables
+from registry_tools import outcomes, steps, streams, tables
 from registry_tools.errors import FILE, NOT_WRITTEN, FileFault, WordsFault
 from registry_tools.office import named_day
 from registry_tools.options import Words, look_at_files
@@ -89,6 +90,10 @@ take all, or standard input is a folder. 130 somebody interrupted it.
 """
 
 
+# Behind this word stands a file into which a command writes what came of it.
+OUTCOME = "--outcome"
+
+
 class Command(Protocol):
     """A module that is a command."""
 
@@ -149,10 +154,12 @@ def run(name: str, arguments: list[str]) -> int:
         return int(end.code or 0)
     except WordsFault as fault:
         progress.clear()
+        outcomes.keep(fault)
         print(f"./day {name}: {fault}", file=sys.stderr)
         return fault.status
     except FileFault as fault:
         progress.clear()
+        outcomes.keep(fault)
         print(fault, file=sys.stderr)
         return fault.status
     finally:
@@ -177,6 +184,12 @@ def start() -> None:
 
 def main(arguments: list[str]) -> int:
     """Runs the words of a command line, and answers the exit status."""
+    if arguments[:1] == [OUTCOME] and arguments[2:]:
+        # (whoever started the command reads what came of it, and not its sentences)
+        outcomes.telling = outcomes.Telling()
+        status = main(arguments[2:])
+        outcomes.write(Path(arguments[1]), status)
+        return status
     if arguments[:1] == ["help"]:
         arguments = [*arguments[1:2], "--help"]
     if arguments[:1] in (["-h"], ["--help"], ["-V"], ["--version"]) and arguments[1:]:

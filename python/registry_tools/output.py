@@ -10,7 +10,7 @@ from pathlib import Path
 from collections.abc import Iterator
 from types import TracebackType
 
-from registry_tools import steps
+from registry_tools import opening, steps
 from registry_tools.errors import FileFault, UnwrittenFault, of_file
 from registry_tools.office.layout import must_not_be_of_folder
 
@@ -128,7 +128,7 @@ class NewFolder:
         """Writes a file of the folder."""
         # (there may be 100,000 of them: no stream is made for each)
         with writing(self.path / name):
-            file = os.open(f"{self.beside}/{name}", os.O_WRONLY | os.O_CREAT | os.O_EXCL, 0o666)
+            file = opening.create(f"{self.beside}/{name}")
             try:
                 write_all(file, text.encode("utf-8", "surrogateescape"))
             finally:
@@ -174,14 +174,22 @@ class NewFile:
         self.beside = self.real.parent / name_beside(self.real.name)
         remove_left(self.real.parent)
         try:
-            self.beside.write_bytes(text if isinstance(text, bytes) else text.encode("utf-8", "surrogateescape"))
-            if self.real.exists():
-                os.chmod(self.beside, stat.S_IMODE(self.real.stat().st_mode))
+            self.write(text if isinstance(text, bytes) else text.encode("utf-8", "surrogateescape"))
         except BaseException as error:
             self.forget()
             if isinstance(error, OSError):
                 raise cannot(self.path, error) from None
             raise
+
+    def write(self, content: bytes) -> None:
+        """Writes the file, as a new one: whoever may write there may have put a link under its name. Raises OSError."""
+        file = opening.create(self.beside)
+        try:
+            if self.real.exists():
+                os.fchmod(file, stat.S_IMODE(self.real.stat().st_mode))
+            write_all(file, content)
+        finally:
+            os.close(file)
 
     def keep(self) -> None:
         """Puts the file in its place. Raises FileFault if that cannot be done."""

@@ -8,6 +8,7 @@ compare the program with, and to look at before the kit is installed. It is not 
 program. It is slow, and reads only day texts without a fault; of another one it tells the first fault.
 The exit statuses are those of the program.
 """
+import difflib
 import os
 import sys
 from typing import TextIO
@@ -57,8 +58,19 @@ def refuse(words: list[str]) -> int:
     if files:
         tell(sys.stderr, f"{NAME}: {files[0]} is a file. A day text comes from standard input: < {files[0]}\n")
     else:
-        tell(sys.stderr, HELP)
+        tell(sys.stderr, f"{NAME}: {why_not_taken(words)}\n\n{HELP}" if words else HELP)
     return NOT_TAKEN
+
+
+def why_not_taken(words: list[str]) -> str:
+    """Which word is not taken, and what may have been meant."""
+    command, *others = words
+    if command in COMMANDS:
+        return f"{command} takes {'the number of one account' if command == 'statement' else 'no other word'}" + (
+            f", and not {' '.join(others)}" if others else ""
+        )
+    near = difflib.get_close_matches(command, COMMANDS, 1)
+    return f"there is no command {command}" + (f": write {near[0]}" if near else "")
 
 
 def read_input() -> bytes | None:

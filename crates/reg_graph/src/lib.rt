@@ -46,4 +46,4 @@ pub use reg_schedules::{Event, EventFault, MOST_WORKERS, Whereabouts, laws};
 pub use reg_tasks::{
     Context, Done, Lack, Naming, Outcome, Parcel, Ran, RunFault, Slots, Task, Unnamed, run_order,
 };
-pub use world::World;
+pub use world::{World, most_workers_are_eight};

@@ -57,3 +57,8 @@ impl<'c, 'a, N: Naming> World<'c, 'a, N> {
         self.context
     }
 }
+
+/// The most workers of a world are 8.
+pub fn most_workers_are_eight()
+    ensures { MOST_WORKERS ≡ 8 }
+{}

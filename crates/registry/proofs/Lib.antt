@@ -1,1 +1,4 @@
+mod Described
 mod Found
+mod Served
+mod Typed

@@ -2,18 +2,28 @@
 //! command to standard output. A fault is one line on standard error.
 #![tactic(auto)]
 
-ghost use Rattle.std.specs.Prelude.{◌≡◌};
+ghost use Rattle.std.specs.IoError.{error_kind};
+ghost use Rattle.std.specs.Prelude.{◌≡◌, ◌≢◌, ◌⊎◌, IfOk, MatchResult, drop, map};
+ghost use Rattle.std.specs.Process.{exit_status};
+ghost use Rattle.std.specs.Vec.Iter.{into_iter_items};
+ghost use Rattle.std.specs.declared.io.ErrorKind.TheVariants.{OutOfMemory as MemoryRanOut};
+ghost use Rattle.clap.specs.Words.{kind_of};
+ghost use Rattle.clap.specs.declared.error.kind.ErrorKind.TheVariants.{DisplayHelp, DisplayVersion, OutOfMemory};
 ghost use Rattle.reg_front.specs.Counting.{counted_stream};
 ghost use Rattle.reg_front.specs.Lines.{IsTold};
 ghost use Rattle.reg_front.specs.Ranging.{ranged_stream};
 ghost use Rattle.reg_front.specs.Streams.{CanFail};
-ghost use Rattle.registry.specs.Serving.{IsShown, Serves, streams_of};
+ghost use Rattle.reg_front.specs.declared.fault.FrontFault.TheVariants.{NoMemory};
+ghost use Rattle.registry.specs.Serving.{IsEnded, IsUnread, Serves, ServesArguments, streams_of};
 ghost use Rattle.registry.specs.Statuses.{exit_status_of};
 
 mod input;
+mod laws;
+mod system;
 mod words;
 
-use crate::input::open_input;
+use crate::input::input_of;
+use crate::system::open_files;
 use crate::words::read_words;
 use clap::error::ErrorKind;
 use reg_front::{
@@ -21,9 +31,9 @@ use reg_front::{
 };
 use std::alloc::{AllocError, Global};
 use std::convert::AsStr;
+use std::env::Args;
 use std::io::{Read, Write};
 use std::process::ExitCode;
-use std::rt::Env;
 use std::thread::Threads;
 use std::{env, io};
 
@@ -57,8 +67,9 @@ pub fn serve<
     requires reader { CanFail (ranged_stream R.stream reader.old) }
     requires writer { CanFail (counted_stream W.contents writer.old) }
     requires faults { CanFail (counted_stream F.contents faults.old) }
-    ensures { Serves result (streams_of W.contents F.contents (ranged_stream R.stream reader.old) writer.old
-        faults.old) (streams_of W.contents F.contents (ranged_stream R.stream reader.new) writer.new faults.new) }
+    ensures { Serves (map S.text words.entry.now) result
+        (streams_of W.contents F.contents (ranged_stream R.stream reader.old) writer.old faults.old)
+        (streams_of W.contents F.contents (ranged_stream R.stream reader.new) writer.new faults.new) }
 {
     match read_words(alloc, words) {
         Ok(command) => match run_without_freeing(rt, alloc, reader, writer, command) {
@@ -76,8 +87,10 @@ fn show<W: Write, F: Write>(
     faults: &mut Counted<F>,
 ) -> u8
     requires { CanFail (counted_stream F.contents faults.old) }
-    ensures { IsShown result (counted_stream W.contents writer.old) (counted_stream W.contents writer.new)
+    ensures ended { IsEnded result (counted_stream W.contents writer.old) (counted_stream W.contents writer.new)
         (counted_stream F.contents faults.old) (counted_stream F.contents faults.new) }
+    ensures help { result ≡ 0 → (kind_of error.now ≡ DisplayHelp) ⊎ (kind_of error.now ≡ DisplayVersion) }
+    ensures memory { kind_of error.now ≡ OutOfMemory → result ≡ 4 }
 {
     if error.kind() == ErrorKind::OutOfMemory {
         return tell(FrontFault::NoMemory, faults);
@@ -119,34 +132,95 @@ fn status(fault: FrontFault) -> u8
 // What is said if a word is not UTF-8.
 const NOT_UTF8: &str = "error: a word is not UTF-8\n\nFor more information, try '--help'.\n";
 
-// The arguments after the program's name. Nothing, if one of them is not UTF-8.
-fn read_arguments<R: Env + AllocGlobal>(rt: &R) -> Result<Option<Vec<String>>, AllocError> {
-    match env::args(rt) {
-        Ok(args) => Ok(Some(args.skip(1).collect(rt.alloc())?)),
-        Err(fault) => match fault.kind() {
-            io::ErrorKind::OutOfMemory => Err(AllocError),
-            _ => Ok(None),
-        },
+// The words behind the program's name.
+fn words_behind_name(alloc: Global, arguments: Args) -> Result<Vec<String>, AllocError>
+    ensures { IfOk result (λ words. words.items ≡ drop 1 (into_iter_items arguments)) }
+{
+    arguments.skip(1).collect(alloc)
+}
+
+// Says why the system gave no words, and answers the status.
+fn tell_unread<F: Write>(fault: &io::Error, faults: &mut Counted<F>) -> u8
+    requires { CanFail (counted_stream F.contents faults.old) }
+    ensures memory { error_kind fault.now ≡ MemoryRanOut → result ≡ 4 }
+    ensures word { error_kind fault.now ≢ MemoryRanOut → result ≡ 2 }
+    ensures told { result ≡ 4 → IsTold NoMemory (counted_stream F.contents faults.old)
+        (counted_stream F.contents faults.new) }
+{
+    if fault.kind() == io::ErrorKind::OutOfMemory {
+        return tell(FrontFault::NoMemory, faults);
+    }
+    let _ = write!(faults, "{NOT_UTF8}");
+    WORDS_NOT_TAKEN
+}
+
+// Serves with the words behind the program's name, if there is memory for them.
+fn serve_arguments<
+    T: Threads + Sync,
+    R: Source,
+    I: ReadAt + Sync + Drop,
+    P: Read + Drop,
+    W: Write,
+    F: Write,
+>(
+    rt: &T,
+    alloc: Global,
+    arguments: Args,
+    reader: &mut Ranged<R, I, P>,
+    writer: &mut Counted<W>,
+    faults: &mut Counted<F>,
+) -> u8
+    requires reader { CanFail (ranged_stream R.stream reader.old) }
+    requires writer { CanFail (counted_stream W.contents writer.old) }
+    requires faults { CanFail (counted_stream F.contents faults.old) }
+    ensures { ServesArguments (into_iter_items arguments) result
+        (streams_of W.contents F.contents (ranged_stream R.stream reader.old) writer.old faults.old)
+        (streams_of W.contents F.contents (ranged_stream R.stream reader.new) writer.new faults.new) }
+{
+    match words_behind_name(alloc, arguments) {
+        Ok(words) => serve(rt, alloc, words.as_slice(), reader, writer, faults),
+        Err(AllocError) => tell(FrontFault::NoMemory, faults),
     }
 }
 
-fn main(rt: HostRuntime) -> ExitCode {
-    let mut reader = open_input(&rt);
-    let mut faults = Counted::new(rt.stderr());
-    let status = match read_arguments(&rt) {
-        Ok(Some(words)) => serve(
-            &rt,
-            rt.alloc(),
-            words.as_slice(),
-            &mut reader,
-            &mut Counted::new(rt.stdout()),
-            &mut faults,
-        ),
-        Ok(None) => {
-            let _ = write!(faults, "{NOT_UTF8}");
-            WORDS_NOT_TAKEN
-        }
-        Err(AllocError) => tell(FrontFault::NoMemory, &mut faults),
+/// The whole program, started with these arguments, of which the first is its name: [`serve`] with the words behind it.
+/// If the system gives no arguments, because one is no UTF-8 or memory ran out, no input is read, and the exit status
+/// is 2 or 4.
+pub fn serve_program<
+    T: Threads + Sync + AllocGlobal,
+    R: Source,
+    I: ReadAt + Sync + Drop,
+    P: Read + Drop,
+    W: Write,
+    F: Write,
+>(
+    rt: &T,
+    arguments: io::Result<Args>,
+    reader: &mut Ranged<R, I, P>,
+    writer: &mut Counted<W>,
+    faults: &mut Counted<F>,
+) -> ExitCode
+    requires reader { CanFail (ranged_stream R.stream reader.old) }
+    requires writer { CanFail (counted_stream W.contents writer.old) }
+    requires faults { CanFail (counted_stream F.contents faults.old) }
+    ensures { MatchResult arguments
+        (λ given. ServesArguments (into_iter_items given) (exit_status result)
+        (streams_of W.contents F.contents (ranged_stream R.stream reader.old) writer.old faults.old)
+        (streams_of W.contents F.contents (ranged_stream R.stream reader.new) writer.new faults.new))
+        (λ fault. IsUnread (error_kind fault) (exit_status result)
+        (streams_of W.contents F.contents (ranged_stream R.stream reader.old) writer.old faults.old)
+        (streams_of W.contents F.contents (ranged_stream R.stream reader.new) writer.new faults.new)) }
+{
+    let status = match arguments {
+        Ok(given) => serve_arguments(rt, rt.alloc(), given, reader, writer, faults),
+        Err(fault) => tell_unread(&fault, faults),
     };
     ExitCode::from(status)
+}
+
+fn main(rt: HostRuntime) -> ExitCode {
+    let mut reader = input_of(rt.stdin(), rt.stderr(), open_files(&rt));
+    let mut writer = Counted::new(rt.stdout());
+    let mut faults = Counted::new(rt.stderr());
+    serve_program(&rt, env::args(&rt), &mut reader, &mut writer, &mut faults)
 }

@@ -8,27 +8,37 @@
 
 ghost use Rattle.std.specs.Prelude.{◌≡◌, codes};
 ghost use Rattle.registry_c.specs.Answers.{Tells};
+ghost use Rattle.registry_c.specs.Columns.{column_with, name_of_column, sentence_with};
 ghost use Rattle.registry_c.specs.Most.{room_most};
 ghost use Rattle.registry_c.specs.Names.{TellsText, cause_with, check_with};
 ghost use Rattle.registry_c.specs.Names.{sentence_of_check, word_of_cause, word_of_check};
 ghost use Rattle.registry_c.specs.Next.{TellsNext};
+ghost use Rattle.registry_c.specs.Places.{TellsPlace};
 ghost use Rattle.registry_c.specs.declared.question.Question.TheVariants.{Figures, Log, Plan};
 ghost use Rattle.registry_c.specs.declared.question.Question.TheVariants.{Report, Statement, Statements, Totals};
 
 mod answer;
+mod causes;
+mod columns;
 mod fault;
 mod most;
 mod names;
 mod next;
+mod place;
 mod question;
+mod rows;
 mod texts;
+mod wanted;
 
 use crate::answer::{tell, tell_next, tell_text};
 pub use answer::Answer;
+pub use columns::Column;
 pub use fault::Fault;
 pub use most::each_report_has_room;
+pub use place::Place;
 pub use question::Question;
 use std::alloc::Global;
+pub use wanted::Wanted;
 
 // The version of what the header says. A change that breaks a caller raises it.
 const VERSION: u32 = 1;
@@ -156,4 +166,30 @@ pub extern "C" fn registry_refusal_sentence(code: u32, room: &mut [u8]) -> Answe
     ensures { TellsText (sentence_of_check (check_with code)) result room.old room.new }
 {
     tell_text(names::sentence_of_check(code), room)
+}
+
+/// Where the first fault of a text stands, if it is no day text: its row, its cause, and the field of the row. Row and
+/// cause are those that [`registry_settle`] tells. The field is looked for a second time, which promises nothing.
+#[unsafe(no_mangle)]
+pub extern "C" fn registry_find_fault(alloc: Global, day: &[u8]) -> Place
+    ensures { TellsPlace day.now result }
+{
+    place::find_fault(alloc, day)
+}
+
+/// The name of the column with this number, as docs/FORMATS.md has it. A number that is no column's has the empty text.
+#[unsafe(no_mangle)]
+pub extern "C" fn registry_field_name(column: u32, room: &mut [u8]) -> Answer
+    ensures { TellsText (name_of_column (column_with column)) result room.old room.new }
+{
+    tell_text(names::name_of_column(column), room)
+}
+
+/// What is wrong with a row by this cause in this column, in a sentence: what is wanted there. A column that there is
+/// not stands for the row as a whole, and a number that is no cause has the empty text.
+#[unsafe(no_mangle)]
+pub extern "C" fn registry_fault_sentence(cause: u32, column: u32, room: &mut [u8]) -> Answer
+    ensures { TellsText (sentence_with (cause_with cause) (column_with column)) result room.old room.new }
+{
+    tell_text(names::sentence_of(cause, column), room)
 }

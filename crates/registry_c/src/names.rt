@@ -2,9 +2,12 @@
 
 ghost use Rattle.std.specs.Prelude.{◌≡◌};
 ghost use Rattle.reg_text.specs.CauseNames.{causes};
+ghost use Rattle.registry_c.specs.Columns.{column_with, name_of_column, sentence_with};
 ghost use Rattle.registry_c.specs.Names.{cause_with, check_with, sentence_of_check, word_of_cause, word_of_check};
 
 use crate::answer::number_of;
+use crate::causes::sentence_of_fault;
+use crate::columns::column_with;
 use reg_base::{CHECKS, Refusal};
 use reg_text::Cause;
 
@@ -67,6 +70,26 @@ pub(crate) fn sentence_of_check(code: u32) -> &'static str
 {
     match check_with(code) {
         Some(check) => check.sentence(),
+        None => "",
+    }
+}
+
+/// The name of a column, or nothing.
+pub(crate) fn name_of_column(number: u32) -> &'static str
+    ensures { result.now ≡ name_of_column (column_with number) }
+{
+    match column_with(number) {
+        Some(column) => column.name(),
+        None => "",
+    }
+}
+
+/// The sentence of a fault with this cause in this column, or nothing.
+pub(crate) fn sentence_of(cause: u32, column: u32) -> &'static str
+    ensures { result.now ≡ sentence_with (cause_with cause) (column_with column) }
+{
+    match cause_with(cause) {
+        Some(cause) => sentence_of_fault(cause, column_with(column)),
         None => "",
     }
 }

@@ -29,6 +29,10 @@ public final class Registry {
     private static final int CAUSE_WORD = 1;
     private static final int REFUSAL_WORD = 2;
     private static final int REFUSAL_SENTENCE = 3;
+    private static final int FIELD_NAME = 4;
+    private static final int FAULT_SENTENCE = 5;
+    // What registry_jni.c tells of a call: status, cause, row, and of a fault its field and the column of this field.
+    private static final int TOLD = 5;
 
     // The statuses of the library.
     private static final long DONE = 0;
@@ -42,7 +46,13 @@ public final class Registry {
 
     private Registry() {}
 
-    /** The report of the day that these bytes describe. */
+    /**
+     * The report of the day that these bytes describe.
+     *
+     * @param day a day text
+     * @return the text of the report
+     * @throws Fault if the bytes are no day text
+     */
     public static String settle(byte[] day) throws Fault {
         return ask(SETTLE, day, 0);
     }
@@ -50,6 +60,9 @@ public final class Registry {
     /**
      * How many bytes the report of a day text of this length has at most: eight times as many, or {@code Long.MAX_VALUE}
      * if that is more. It was proved.
+     *
+     * @param dayLength the length of a day text, in bytes
+     * @return the most bytes of its report
      */
     public static long reportMost(long dayLength) {
         if (dayLength < 0) {
@@ -58,27 +71,58 @@ public final class Registry {
         return most(dayLength);
     }
 
-    /** The log of the day alone: why each instruction is done or refused. */
+    /**
+     * The log of the day alone: why each instruction is done or refused.
+     *
+     * @param day a day text
+     * @return the rows of the log
+     * @throws Fault if the bytes are no day text
+     */
     public static String attempt(byte[] day) throws Fault {
         return ask(TRY, day, 0);
     }
 
-    /** Which instructions of the day must wait for which others. */
+    /**
+     * Which instructions of the day must wait for which others.
+     *
+     * @param day a day text
+     * @return the text of the plan
+     * @throws Fault if the bytes are no day text
+     */
     public static String plan(byte[] day) throws Fault {
         return ask(PLAN, day, 0);
     }
 
-    /** The determined compliance figures after the day. */
+    /**
+     * The determined compliance figures after the day.
+     *
+     * @param day a day text
+     * @return their text
+     * @throws Fault if the bytes are no day text
+     */
     public static String figures(byte[] day) throws Fault {
         return ask(FIGURES, day, 0);
     }
 
-    /** The totals after the day. */
+    /**
+     * The totals after the day.
+     *
+     * @param day a day text
+     * @return their text
+     * @throws Fault if the bytes are no day text
+     */
     public static String totals(byte[] day) throws Fault {
         return ask(TOTALS, day, 0);
     }
 
-    /** The statement of an account over the day. If it is not there: an {@link IllegalArgumentException}. */
+    /**
+     * The statement of an account over the day. If it is not there: an {@link IllegalArgumentException}.
+     *
+     * @param day a day text
+     * @param account the number of the account
+     * @return the text of the statement
+     * @throws Fault if the bytes are no day text
+     */
     public static String statement(byte[] day, int account) throws Fault {
         return ask(STATEMENT, day, account);
     }
@@ -86,6 +130,10 @@ public final class Registry {
     /**
      * The statements of all accounts, by rising number, one behind another, after one settlement. Each ends with its row
      * {@code end}.
+     *
+     * @param day a day text
+     * @return the texts
+     * @throws Fault if the bytes are no day text
      */
     public static String statements(byte[] day) throws Fault {
         return ask(STATEMENTS, day, 0);
@@ -94,6 +142,11 @@ public final class Registry {
     /**
      * The text of the next day up to its instructions: its {@code do} rows, if it has some, and the row {@code end} go
      * behind it. A date that is not later than the day is an {@link IllegalArgumentException}.
+     *
+     * @param day a day text
+     * @param date the next day
+     * @return the text
+     * @throws Fault if the bytes are no day text
      */
     public static String nextDay(byte[] day, LocalDate date) throws Fault {
         byte[] written = date.format(FORM).getBytes(StandardCharsets.US_ASCII);
@@ -101,23 +154,45 @@ public final class Registry {
         return ask(NEXT, day, 0, written.length == NO_DATE.length ? written : NO_DATE);
     }
 
-    /** The version of the engine, such as {@code 1.1}. */
+    /**
+     * The version of the engine, such as {@code 1.1}.
+     *
+     * @return the version
+     */
     public static String version() {
-        return words(VERSION_STRING, 0);
+        return words(VERSION_STRING, 0, 0);
     }
 
-    /** The name of the check with this code, 1 to 28, as a log has it. Another code has the empty text. */
+    /**
+     * The name of the check with this code, 1 to 28, as a log has it. Another code has the empty text.
+     *
+     * @param code the code of a check
+     * @return its name
+     */
     public static String refusalWord(int code) {
-        return words(REFUSAL_WORD, code);
+        return words(REFUSAL_WORD, code, 0);
     }
 
-    /** Why the check with this code refuses an instruction, in a sentence. Another code has the empty text. */
+    /**
+     * Why the check with this code refuses an instruction, in a sentence. Another code has the empty text.
+     *
+     * @param code the code of a check
+     * @return a sentence
+     */
     public static String refusalSentence(int code) {
-        return words(REFUSAL_SENTENCE, code);
+        return words(REFUSAL_SENTENCE, code, 0);
     }
 
     static String causeWord(int cause) {
-        return words(CAUSE_WORD, cause);
+        return words(CAUSE_WORD, cause, 0);
+    }
+
+    static String fieldName(int column) {
+        return words(FIELD_NAME, column, 0);
+    }
+
+    static String faultSentence(Cause cause, int column) {
+        return words(FAULT_SENTENCE, cause.ordinal() + 1, column);
     }
 
     private static String ask(int command, byte[] day, int account) throws Fault {
@@ -127,13 +202,13 @@ public final class Registry {
     private static String ask(int command, byte[] day, int account, byte[] date) throws Fault {
         // (the native method reads whatever it is given)
         Objects.requireNonNull(day, "no day text");
-        long[] told = new long[3];
+        long[] told = new long[TOLD];
         byte[] text = call(command, day, account, date, told);
         if (told[0] == DONE) {
             return new String(text, StandardCharsets.US_ASCII);
         }
         if (told[0] == FAULT) {
-            throw new Fault(told[2], Cause.values()[(int) told[1] - 1]);
+            throw new Fault(told[2], Cause.values()[(int) told[1] - 1], (int) told[3], (int) told[4]);
         }
         if (told[0] == NO_ACCOUNT) {
             throw new IllegalArgumentException("no such account: " + Integer.toUnsignedString(account));
@@ -146,8 +221,8 @@ public final class Registry {
 
     private static native long most(long dayLength);
 
-    private static native String words(int which, int number);
+    private static native String words(int which, int number, int column);
 
-    // Fills `told` with status, cause and row, and answers the text if there is one.
+    // Fills `told`, and answers the text if there is one.
     private static native byte[] call(int command, byte[] day, int account, byte[] date, long[] told);
 }

@@ -3,7 +3,6 @@ use std::collections::BTreeMap;
 
 /// What an account has surrendered or deleted.
 #[derive(Clone, Copy, Debug, PartialEq, Eq, Hash)]
-#[non_exhaustive]
 pub struct Retired {
     /// Its record number.
     pub record: u64,
@@ -66,6 +65,26 @@ pub struct Account {
 }
 
 impl Account {
+    /// An open account of this number, kind and holder, which holds nothing and has no lists yet.
+    pub fn new(number: u32, kind: AccountKind, holder: u32) -> Self {
+        Account {
+            number,
+            kind,
+            holder,
+            status: Status::Open,
+            allows_outside: false,
+            has_waiver: false,
+            general: 0,
+            aviation: 0,
+            corrections: BTreeMap::from([(1, 0)]),
+            users: BTreeMap::new(),
+            trusted: BTreeMap::new(),
+            retired: Vec::new(),
+            emissions: BTreeMap::new(),
+            figures: BTreeMap::new(),
+        }
+    }
+
     fn read(fields: &mut Fields<'_>) -> Self {
         let (number, kind) = (fields.number(), fields.value(AccountKind::of));
         let (holder, status) = (fields.number(), fields.value(Status::of));
@@ -104,23 +123,22 @@ impl Account {
 }
 
 /// The accounts of a book, one after another, each with the rows of its lists.
-pub(crate) struct Accounts<'a, R: Iterator<Item = &'a str>> {
+pub(crate) struct Accounts<R> {
     rows: R,
     next: Option<Account>,
 }
 
-impl<'a, R: Iterator<Item = &'a str>> Accounts<'a, R> {
+impl<'a, R: Iterator<Item = Fields<'a>>> Accounts<R> {
     pub(crate) fn of(rows: R) -> Self {
         Accounts { rows, next: None }
     }
 }
 
-impl<'a, R: Iterator<Item = &'a str>> Iterator for Accounts<'a, R> {
+impl<'a, R: Iterator<Item = Fields<'a>>> Iterator for Accounts<R> {
     type Item = Account;
 
     fn next(&mut self) -> Option<Account> {
-        for row in self.rows.by_ref() {
-            let mut fields = Fields::of(row);
+        for mut fields in self.rows.by_ref() {
             match (fields.text(), self.next.as_mut()) {
                 ("account", _) => {
                     let before = self.next.replace(Account::read(&mut fields));

@@ -1,7 +1,7 @@
 use crate::native;
 use std::error::Error;
 use std::fmt;
-use std::sync::OnceLock;
+use std::sync::Mutex;
 
 /// What is wrong with the first faulty row.
 #[derive(Clone, Copy, Debug, PartialEq, Eq, Hash)]
@@ -43,8 +43,13 @@ impl Cause {
 
     /// The word of the cause, as the program writes it.
     pub fn word(self) -> &'static str {
-        static WORDS: OnceLock<Vec<String>> = OnceLock::new();
-        &WORDS.get_or_init(|| (1..=Cause::ALL.len() as u32).map(native::cause_word).collect())[self as usize]
+        // (a word is asked for once, and kept as long as the program runs)
+        static WORDS: Mutex<Vec<&'static str>> = Mutex::new(Vec::new());
+        let mut words = WORDS.lock().unwrap_or_else(|poisoned| poisoned.into_inner());
+        for number in words.len()..Cause::ALL.len() {
+            words.push(Box::leak(native::cause_word(number as u32 + 1).into_boxed_str()));
+        }
+        words[self as usize]
     }
 }
 
@@ -61,8 +66,7 @@ impl fmt::Display for Cause {
 ///
 /// let fault = registry::settle(&std::fs::read("../wrong-date.csv")?).unwrap_err();
 /// assert_eq!(fault.to_string(), "row 12: date");
-/// let Fault::Row { row, cause } = fault else { panic!("no fault of a row") };
-/// assert_eq!((row, cause), (12, Cause::Date));
+/// assert!(matches!(fault, Fault::Row { row: 12, cause: Cause::Date }));
 /// # Ok::<(), Box<dyn std::error::Error>>(())
 /// ```
 #[derive(Clone, Copy, Debug, PartialEq, Eq, Hash)]
@@ -95,3 +99,27 @@ impl fmt::Display for Fault {
 }
 
 impl Error for Fault {}
+
+/// A field of a faulty row.
+#[derive(Clone, Debug, PartialEq, Eq, Hash)]
+#[non_exhaustive]
+pub struct Field {
+    /// Its number in the row, counted from 1: the tag is 1.
+    pub number: usize,
+    /// Its name in the description of the texts, such as `PROPOSED`.
+    pub name: String,
+}
+
+/// Where the first fault of a text stands, and what is wanted there: [`find_fault`](crate::find_fault) tells it.
+#[derive(Clone, Debug, PartialEq, Eq, Hash)]
+#[non_exhaustive]
+pub struct Place {
+    /// The number of the first faulty row, counted from 1.
+    pub row: u64,
+    /// The first cause that applies to it.
+    pub cause: Cause,
+    /// The faulty field; none if it is the row as a whole.
+    pub field: Option<Field>,
+    /// What is wanted there, in a sentence.
+    pub sentence: String,
+}

@@ -115,6 +115,11 @@ pub struct Instruction {
 }
 
 impl Instruction {
+    /// What `proposer` asked for on this day, approved by `approver` if somebody did.
+    pub fn new(proposed: Date, proposer: u32, approver: Option<u32>, act: Act) -> Self {
+        Instruction { proposed, proposer, approver, act }
+    }
+
     pub(crate) fn read(fields: &mut Fields<'_>) -> Self {
         Instruction {
             proposed: fields.date(),

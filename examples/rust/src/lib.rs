@@ -13,18 +13,25 @@
 #![warn(missing_docs)]
 
 mod account;
+mod day;
 mod fault;
 mod instruction;
 #[allow(unsafe_code)]
 mod native;
 mod report;
+mod rows;
+mod rules;
 mod values;
+mod writing;
 
 pub use account::{Account, Retired};
-pub use fault::{Cause, Fault};
+pub use day::{Day, Determined, Statement, Task};
+pub use fault::{Cause, Fault, Field, Place};
 pub use instruction::{Act, Instruction, Share};
 pub use report::{Log, LogRow, Outcome, Refusal, Report, Totals};
+pub use rules::{Period, Rules};
 pub use values::{AccountKind, Date, Holding, Kind, Right, Status};
+pub use writing::write_day;
 
 /// The report of the day that these bytes describe.
 ///
@@ -164,6 +171,22 @@ pub fn totals(day: &[u8]) -> Result<Vec<u8>, Fault> {
 /// As [`settle`], and `NoNextDate` if the date is not later than the day, or no date of a day text.
 pub fn next_day(day: &[u8], date: Date) -> Result<Vec<u8>, Fault> {
     native::next_day(day, &date.to_string())
+}
+
+/// Where the first fault of these bytes stands, and what is wanted there. `None` if they are a day text.
+///
+/// ```
+/// let place = registry::find_fault(&std::fs::read("../wrong-date.csv")?)?.ok_or("no fault")?;
+/// let field = place.field.ok_or("no field")?;
+/// assert_eq!((place.row, field.number, field.name.as_str()), (12, 2, "PROPOSED"));
+/// assert!(place.sentence.starts_with("A date YYYY-MM-DD is wanted"));
+/// # Ok::<(), Box<dyn std::error::Error>>(())
+/// ```
+///
+/// # Errors
+/// `NoMemory` if memory ran out.
+pub fn find_fault(day: &[u8]) -> Result<Option<Place>, Fault> {
+    native::find_fault(day)
 }
 
 /// The version of the engine, such as `1.1`.

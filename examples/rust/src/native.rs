@@ -1,7 +1,7 @@
 //! The calls of the library. Each `unsafe` block stands on what registry.h asks of a caller: pointers that are valid for
 //! their lengths, and a room that nothing else uses during the call.
 
-use crate::fault::{Cause, Fault};
+use crate::fault::{Cause, Fault, Field, Place};
 
 /// `struct registry_answer` of registry.h.
 #[repr(C)]
@@ -10,6 +10,16 @@ struct Answer {
     cause: u32,
     row: u64,
     length: usize,
+}
+
+/// `struct registry_place` of registry.h.
+#[repr(C)]
+struct Found {
+    status: u32,
+    cause: u32,
+    row: u64,
+    field: u32,
+    column: u32,
 }
 
 const DONE: u32 = 0;
@@ -39,6 +49,9 @@ extern "C" {
     fn registry_cause_word(cause: u32, room: *mut u8, room_length: usize) -> Answer;
     fn registry_refusal_word(code: u32, room: *mut u8, room_length: usize) -> Answer;
     fn registry_refusal_sentence(code: u32, room: *mut u8, room_length: usize) -> Answer;
+    fn registry_find_fault(day: *const u8, day_length: usize) -> Found;
+    fn registry_field_name(column: u32, room: *mut u8, room_length: usize) -> Answer;
+    fn registry_fault_sentence(cause: u32, column: u32, room: *mut u8, room_length: usize) -> Answer;
 }
 
 type Call = unsafe extern "C" fn(*const u8, usize, *mut u8, usize) -> Answer;
@@ -64,7 +77,32 @@ fn ask(guess: usize, mut call: impl FnMut(&mut [u8]) -> Answer) -> Result<Vec<u8
 }
 
 fn fault_of(answer: &Answer) -> Fault {
-    Fault::Row { row: answer.row, cause: Cause::ALL[answer.cause as usize - 1] }
+    Fault::Row { row: answer.row, cause: cause_with(answer.cause) }
+}
+
+fn cause_with(number: u32) -> Cause {
+    Cause::ALL[number as usize - 1]
+}
+
+/// Where the first fault stands, if there is one.
+pub(crate) fn find_fault(day: &[u8]) -> Result<Option<Place>, Fault> {
+    // SAFETY: the pointer is valid for this length.
+    let found = unsafe { registry_find_fault(day.as_ptr(), day.len()) };
+    match found.status {
+        DONE => Ok(None),
+        FAULT => {
+            let field = (found.field > 0)
+                .then(|| Field { number: found.field as usize, name: words_of(registry_field_name, found.column) });
+            let sentence = fault_sentence(found.cause, found.column);
+            Ok(Some(Place { row: found.row, cause: cause_with(found.cause), field, sentence }))
+        }
+        _ => Err(Fault::NoMemory),
+    }
+}
+
+fn fault_sentence(cause: u32, column: u32) -> String {
+    // SAFETY: as in `words_of`.
+    words(|room| unsafe { registry_fault_sentence(cause, column, room.as_mut_ptr(), room.len()) })
 }
 
 fn command(call: Call, day: &[u8]) -> Result<Vec<u8>, Fault> {

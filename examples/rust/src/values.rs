@@ -1,6 +1,7 @@
 //! The values of the fields of a text.
 
 use std::fmt;
+use std::slice::Iter;
 use std::str::{FromStr, Split};
 
 /// Makes the values that each have a word in the texts.
@@ -63,6 +64,14 @@ words! {
     }
 }
 
+impl AccountKind {
+    /// Its place among the kinds by which the rows `surrender` rise: operators stand first.
+    pub(crate) fn rank(self) -> usize {
+        let rising = [AccountKind::Operator, AccountKind::Aircraft, AccountKind::Trading, AccountKind::Allocation];
+        rising.iter().position(|own| *own == self).unwrap_or(rising.len())
+    }
+}
+
 words! {
     /// The status of an account.
     Status {
@@ -117,27 +126,42 @@ pub struct Holding {
     pub aviation: u64,
 }
 
-// What the library has promised of each row that it writes.
-const WRITTEN: &str = "the library writes each row in its form";
+// What the library has promised of each row that it writes, and has looked at in each row that it reads.
+const WRITTEN: &str = "the library writes and takes each row in its form";
 
-/// The fields of a row that the library has written, from left to right.
+/// The fields of a row that the library has written or read, from left to right.
 #[derive(Clone)]
 pub(crate) struct Fields<'a> {
-    fields: Split<'a, char>,
+    fields: Parts<'a>,
+}
+
+#[derive(Clone)]
+enum Parts<'a> {
+    Written(Split<'a, char>),
+    Read(Iter<'a, String>),
 }
 
 impl<'a> Fields<'a> {
+    /// Those of a row that it has written, which has no quotes.
     pub(crate) fn of(row: &'a str) -> Self {
-        Fields { fields: row.split(',') }
+        Fields { fields: Parts::Written(row.split(',')) }
+    }
+
+    /// Those of a row of a day text that it has read.
+    pub(crate) fn in_row(row: &'a [String]) -> Self {
+        Fields { fields: Parts::Read(row.iter()) }
     }
 
     pub(crate) fn text(&mut self) -> &'a str {
-        self.fields.next().expect(WRITTEN)
+        self.more().expect(WRITTEN)
     }
 
     /// The next field; nothing, if there is none.
     pub(crate) fn more(&mut self) -> Option<&'a str> {
-        self.fields.next()
+        match &mut self.fields {
+            Parts::Written(fields) => fields.next(),
+            Parts::Read(fields) => fields.next().map(String::as_str),
+        }
     }
 
     pub(crate) fn number<N: FromStr>(&mut self) -> N {

@@ -17,11 +17,12 @@ from registry_tools.pages import beside, html
 from registry_tools.pages.rulebook import FORMATS, RULES
 from registry_tools.pages.settled import long_date
 from registry_tools.second import faults
+from registry_tools.sheets import limits
 from registry_tools.texts.checks import checks
 from registry_tools.texts.in_words import grouped
 
-# An upload is at most as large as a text may be, and a form without files much smaller.
-MOST_BYTES, MOST_FORM = 1 << 30, 1 << 20
+# What is sent at once is at most as large as one file may be that is handed in, and a form without files much smaller.
+MOST_BYTES, MOST_FORM = limits.MOST_BYTES, 1 << 20
 SECTIONS = {
     "/": "Today", "/hand-in": "Hand in", "/next": "The next day", "/change": "Change", "/close": "Close",
     "/days": "Days", "/accounts": "Accounts", "/compliance": "Compliance", "/due": "Due", "/month": "Months",
@@ -67,6 +68,7 @@ def make(served: Served) -> flask.Flask:
         MAX_CONTENT_LENGTH=MOST_BYTES, SESSION_COOKIE_NAME=f"desk-{served.host.rpartition(':')[2]}",
         SESSION_COOKIE_HTTPONLY=True, SESSION_COOKIE_SAMESITE="Strict",
     )  # fmt: skip
+    app.session_interface = gate.Sessions(served.proxy)
     # (the gate stands before all pages, also those that are not there)
     app.before_request(functools.partial(gate.let_in, served))
     app.after_request(gate.with_headers)
@@ -121,7 +123,7 @@ def dress(app: flask.Flask, served: Served) -> None:
     app.jinja_env.globals.update(
         sections=sections, is_look=served.is_look, of_looking=OF_LOOKING, office=served.path.name,
         token=lambda: flask.session["token"], once=lambda: secrets.token_hex(8), state=lambda: flask.g.state,
-        who=lambda: gate.known_name(served), says_name=not served.who and not served.header,
+        who=lambda: gate.known_name(served), says_name=not served.who and not served.proxy,
         may_not=lambda: gate.may_not(served), has_leftovers=served.reading.has_leftovers, apart=beside.apart,
         table=shown.sorted_table, acts=faults.ACT_WORDS, meaning=lambda name: checks()[name].meaning,
     )  # fmt: skip

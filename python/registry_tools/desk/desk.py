@@ -3,8 +3,9 @@ days, accounts and questions. It prints a link with a secret, which lets its rea
 is a command, with the same journal, lock and refusals. Ctrl-C ends it.
 
 With --who one name stands in the journal; without it each browser says its own once. --proxy-user HEADER takes it from
-this header, which a proxy before the desk sets, and refuses requests without it. --look shows all, lets audits begin,
-and changes nothing.
+this header, which a proxy before the desk sets. The proxy shows that it is the one by the header X-Desk-Secret, with
+what stands in the file of --proxy-secret, which nobody else may read; all other requests are refused. --look shows all,
+lets audits begin, and changes nothing. Standard error has a log: who came in, what was begun, what was refused and why.
 
 It needs Flask and waitress: apt-get install python3-flask python3-waitress.
 
@@ -19,6 +20,9 @@ import subprocess
 import sys
 from pathlib import Path
 
+from registry_tools import isolated, streams
+from registry_tools.desk import heads, log
+from registry_tools.desk.heads import Proxy
 from registry_tools.errors import WordsFault
 from registry_tools.office import folder, words
 from registry_tools.progress import progress
@@ -26,6 +30,8 @@ from registry_tools.progress import progress
 EXAMPLE = "./day desk --office out/office"
 ADDRESS, PORT, THREADS = "127.0.0.1", 8424, 6
 NEEDED, SYSTEM = ("flask", "waitress"), "/usr/bin/python3"
+# So many bytes has the head of a request.
+MOST_HEADER = 1 << 15
 # After so many seconds without a byte of a request, its connection is closed.
 SILENT = 60
 
@@ -36,6 +42,7 @@ def add_words(parser: argparse.ArgumentParser) -> None:
     parser.add_argument("--look", action="store_true", help="show all, and change nothing")
     parser.add_argument("--who", metavar="NAME", help="who works at it; without it, each browser says its name once")
     parser.add_argument("--proxy-user", metavar="HEADER", help="the header by which a proxy names who works at it")
+    parser.add_argument("--proxy-secret", metavar="FILE", help="a file of 0600: what the proxy adds as X-Desk-Secret")
     words.add_office(parser)
 
 
@@ -47,20 +54,23 @@ def run(said: argparse.Namespace) -> int:
         raise WordsFault("--proxy-user stands in place of --who")
     if said.proxy_user is not None and not re.fullmatch("[A-Za-z0-9-]+", said.proxy_user):
         raise WordsFault(f"--proxy-user {said.proxy_user} is no name of a header")
+    if (said.proxy_user is None) != (said.proxy_secret is None):
+        raise WordsFault("--proxy-user and --proxy-secret stand together: the header counts from this proxy alone")
+    proxy = None if said.proxy_user is None else Proxy(said.proxy_user, heads.read_secret(said.proxy_secret))
     if not 1 <= said.port <= 65_535:
         raise WordsFault(f"--port {said.port} is no port: one from 1 to 65535")
     missing = [name for name in NEEDED if importlib.util.find_spec(name) is None]
     if missing:
         return by_system(missing)
-    serve(path, said.port, who, said.proxy_user, said.look)
+    serve(path, said.port, who, proxy, said.look)
     return 0
 
 
-def serve(path: Path, port: int, who: str | None, header: str | None, is_look: bool) -> None:
+def serve(path: Path, port: int, who: str | None, proxy: Proxy | None, is_look: bool) -> None:
     """Answers requests until somebody ends it."""
     import waitress
 
-    from registry_tools.desk import app
+    from registry_tools.desk import app, early
     from registry_tools.desk.gate import Served
     from registry_tools.desk.jobs import private_folder
 
@@ -68,15 +78,19 @@ def serve(path: Path, port: int, who: str | None, header: str | None, is_look: b
     gc.enable()
     progress.is_shown = False
     with private_folder() as own:
-        served = Served(path, f"{ADDRESS}:{port}", own, who, header, is_look)
+        served = Served(path, f"{ADDRESS}:{port}", own, who, proxy, is_look)
         flask = app.make(served)
         try:
             server = waitress.create_server(
                 flask, host=ADDRESS, port=port, threads=THREADS, ident=None, channel_timeout=SILENT,
-                max_request_body_size=app.MOST_BYTES,
+                max_request_body_size=app.MOST_BYTES, max_request_header_size=MOST_HEADER,
+                # (what the proxy says of TLS is looked at by its secret)
+                clear_untrusted_proxy_headers=False,
             )  # fmt: skip
         except OSError as error:
             raise WordsFault(f"--port {port}: {error.strerror}; another number may be free") from None
+        early.watch(server, flask, served.host, proxy, app.MOST_BYTES, app.MOST_FORM)
+        log.begin()
         link = f"http://{served.host}/?key={served.key}"
         try:
             print(f"the desk of {path}; Ctrl-C ends it. Open\n{link}", flush=True)
@@ -91,11 +105,9 @@ def serve(path: Path, port: int, who: str | None, header: str | None, is_look: b
 
 def by_system(missing: list[str]) -> int:
     """Starts the desk by the other Python of this machine, if that one has what is needed."""
-    asked = [SYSTEM, "-c", f"import {', '.join(NEEDED)}"]
+    asked = [SYSTEM, "-I", "-c", f"import {', '.join(NEEDED)}"]
     is_own = os.path.realpath(sys.executable) == os.path.realpath(SYSTEM)
     if is_own or not os.access(SYSTEM, os.X_OK) or subprocess.run(asked, capture_output=True, check=False).returncode:
         raise WordsFault(f"it needs {' and '.join(missing)}: apt-get install python3-flask python3-waitress")
     print(f"{sys.executable} has no {' and no '.join(missing)}: started by {SYSTEM}", file=sys.stderr, flush=True)
-    # (it has its own place for packages, and this one lies elsewhere)
-    package = str(Path(__file__).resolve().parents[2])
-    os.execve(SYSTEM, [SYSTEM, *sys.argv], {**os.environ, "PYTHONPATH": package})
+    os.execv(SYSTEM, [*isolated.command_by(SYSTEM), streams.names["./day"], *sys.argv[1:]])

@@ -1,5 +1,5 @@
-"""What a desk serves, and who gets in. It answers one address alone, to browsers that came by its link; a change needs
-the token of a form that this browser was shown."""
+"""What a desk serves, and who gets in. It answers one address alone, to browsers that came by its link, and behind a
+proxy as the one whom it names; a change needs the token of a form that this browser was shown."""
 import hmac
 import re
 import secrets
@@ -7,12 +7,15 @@ from pathlib import Path
 from typing import Any
 
 import flask
+from flask.sessions import SecureCookieSessionInterface
 from werkzeug.wrappers import Response
 
+from registry_tools.desk import heads, log
+from registry_tools.desk.heads import LONGEST_NAME, Head, Proxy, Refusal
 from registry_tools.desk.jobs import Jobs
 from registry_tools.desk.reading import Reading
 from registry_tools.desk.shown import show_page
-from registry_tools.errors import FileFault, WordsFault
+from registry_tools.errors import FileFault, RightsFault, WordsFault
 from registry_tools.office import people
 from registry_tools.office.words import one_line
 
@@ -25,7 +28,6 @@ HEADERS = {
     "Cache-Control": "no-store", "Cross-Origin-Opener-Policy": "same-origin",
     "Cross-Origin-Resource-Policy": "same-origin",
 }  # fmt: skip
-LONGEST_NAME = 80
 NO_DAY = "No day is settled yet: Today leads to the first one."
 # The command of each page that asks for a yes.
 COMMANDS = {
@@ -35,45 +37,64 @@ COMMANDS = {
 
 
 class Served:
-    """A folder with who works at it. `host` is the one address by which it is asked, `header` that of a proxy which
-    names who it is, `who` the one name of a desk that has only one."""
+    """A folder with who works at it. `host` is the one address by which it is asked, `proxy` the one that names who it
+    is, `who` the one name of a desk that has only one."""
 
     def __init__(
-        self, path: Path, host: str, private: Path, who: str | None, header: str | None, is_look: bool
+        self, path: Path, host: str, private: Path, who: str | None, proxy: Proxy | None, is_look: bool
     ) -> None:
-        self.path, self.host, self.who, self.header, self.is_look = path, host, who, header, is_look
+        self.path, self.host, self.who, self.proxy, self.is_look = path, host, who, proxy, is_look
         # What the link has: 128 bits.
         self.key = secrets.token_urlsafe(16)
         self.reading, self.jobs = Reading(path, private), Jobs(path, private)
 
 
+def head() -> Head:
+    """The head of the request."""
+    asked = flask.request
+    headers = {name.lower(): word for name, word in asked.headers.items()}
+    return Head(asked.method, asked.path, headers, "this machine")
+
+
 def let_in(served: Served) -> Any:
     """Answers nothing to who may go on, or why not."""
-    request = flask.request
-    if request.headers.get("Host") != served.host:
-        return said(400, "This is another address than that of the desk.")
+    own, request = head(), flask.request
+    refusal = heads.refusal_of_address(served.host, own) or heads.refusal_of_proxy(served.proxy, own)
     key = request.args.get("key")
-    if key is not None and request.method == "GET" and request.path == "/":
-        return enter(served, key)
-    if "token" not in flask.session:
-        text = "Open the link that the desk printed at its start. If you were in already, go on to this page:"
-        return said(403, text, is_again=True)
-    if served.header is not None and not name_of_proxy(served):
-        return said(403, "The proxy before this desk has to say who you are, and it does not.")
+    if not refusal and key is not None and request.method == "GET" and request.path == "/":
+        return enter(served, own, key)
+    refusal = refusal or heads.refusal_of_browser(served.proxy, own, flask.session) or refusal_of_form()
+    return refuse(own, refusal) if refusal else None
+
+
+def refusal_of_form() -> Refusal | None:
+    """Why a form is refused that this browser was not shown, or another method."""
+    request = flask.request
     if request.method == "POST":
         token = request.form.get("token", "").encode("utf-8", "replace")
         other = "The form is not of this desk, or it was started anew since. Nothing was done: look once more."
         is_own = hmac.compare_digest(token, flask.session["token"].encode())
-        return None if is_own else said(403, other)
-    return None if request.method in ("GET", "HEAD") else said(405, "That is no method of this desk.")
+        return None if is_own else Refusal(403, other, "its token is not that of the browser")
+    is_known = request.method in ("GET", "HEAD")
+    return None if is_known else Refusal(405, "That is no method of this desk.", "no method of the desk")
 
 
-def enter(served: Served, key: str) -> Any:
-    """Lets a browser in that has the secret of the link."""
+def refuse(own: Head, refusal: Refusal) -> Response:
+    """The page of a request that is refused."""
+    log.refused(own.peer, own.method, own.path, refusal.code, refusal.why)
+    return said(refusal.code, refusal.text, is_again=refusal.is_again)
+
+
+def enter(served: Served, own: Head, key: str) -> Any:
+    """Lets a browser in that has the secret of the link. Behind a proxy it stays the one whom the proxy names now."""
     if not hmac.compare_digest(key.encode("utf-8", "replace"), served.key.encode()):
-        return said(403, "The link has another secret: the desk prints a new one each time it is started.")
+        other = "The link has another secret: the desk prints a new one each time it is started."
+        return refuse(own, Refusal(403, other, "the secret of another link"))
     flask.session.clear()
     flask.session["token"] = secrets.token_urlsafe(16)
+    if served.proxy is not None:
+        flask.session["name"] = name_of_proxy(served)
+    log.came_in(own.peer, known_name(served))
     # (a redirect of a link that was opened elsewhere would not take the strict cookie with it: a page does)
     return flask.render_template("entered.html")
 
@@ -91,25 +112,35 @@ def said(code: int, text: str, is_again: bool = False, back: str = "") -> Respon
     return show_page("said", "No", code, text=text, path="/" + path.lstrip("/\\") if path else "", back=back)
 
 
+class Sessions(SecureCookieSessionInterface):
+    """Cookies that a browser keeps to TLS, if its proxy says that it came by that."""
+
+    def __init__(self, proxy: Proxy | None) -> None:
+        self.proxy = proxy
+
+    def get_cookie_secure(self, app: flask.Flask) -> bool:
+        """Whether the cookie is for TLS alone."""
+        return heads.is_by_tls(self.proxy, head())
+
+
 # Who it is.
 
 
 def name_of_proxy(served: Served) -> str:
-    """The name that whoever stands before the desk tells in a header; nothing, if it is none."""
-    name = flask.request.headers.get(served.header or "", "").strip()
-    return name if name.isprintable() and len(name) <= LONGEST_NAME else ""
+    """The name that the proxy before the desk tells; nothing, if it tells none."""
+    return heads.name_in(served.proxy, head()) if served.proxy is not None else ""
 
 
 def known_name(served: Served) -> str:
     """Who works at this browser; nothing, if it was not said yet."""
-    return name_of_proxy(served) if served.header is not None else served.who or str(flask.session.get("who", ""))
+    return name_of_proxy(served) if served.proxy is not None else served.who or str(flask.session.get("who", ""))
 
 
 def speaks_for(served: Served, who: str) -> list[str]:
     """The words by which a command takes the name of a proxy as the login that gives it: if office.ini lets the login
     of this desk speak for others. A name that somebody typed is no login."""
     own = served.reading.office().people.named.get(people.system_login())
-    is_let = served.header is not None and own is not None and people.PROXY in own.rights
+    is_let = served.proxy is not None and own is not None and people.PROXY in own.rights
     return [f"--for={who}"] if is_let else []
 
 
@@ -121,8 +152,10 @@ def may_not(served: Served) -> str:
     try:
         login = f"{people.system_login()}:{who}" if speaks_for(served, who) else people.system_login()
         people.must_be_allowed(served.reading.office().people, login, command)
+    except RightsFault as fault:
+        return fault.why
     except WordsFault as fault:
-        return str(fault).partition(": nothing was done")[0]
+        return str(fault)
     except (FileFault, OSError):
         # (the page says by itself what is wrong with the folder)
         return ""

@@ -9,7 +9,6 @@ import secrets
 import shutil
 import signal
 import subprocess
-import sys
 import tempfile
 import threading
 import time
@@ -17,20 +16,20 @@ from dataclasses import dataclass, field
 from pathlib import Path
 from typing import Callable, Iterator
 
+from registry_tools import isolated, main, outcomes
 from registry_tools.errors import FOUND, WordsFault
-from registry_tools.office.approvals import ASKED_FOR
-from registry_tools.office.words import CAME_LATE
+from registry_tools.office.given import Given
+from registry_tools.outcomes import Kind
 from registry_tools.progress import ASKED
 from registry_tools.streams import names
 
-# A command, wherever the package lies: in a checkout, or where pip has put it.
-PACKAGE = Path(__file__).resolve().parents[2]
-START = "import sys; from registry_tools import main; sys.exit(main.begin(sys.argv[1], sys.argv[2:]))"
-COMMAND = [sys.executable, "-B", "-c", START]
+COMMAND = isolated.command_by()
 # So many answers are kept, and so long (in seconds) an upload waits for its yes.
 MOST_JOBS, UPLOAD_AGE = 200, 3_600
 # So long the desk waits for the commands at its end, before it ends them otherwise.
 MOST_SECONDS = 60.0
+# Where a command tells what came of it.
+OUTCOME = "outcome.json"
 # How a line of progress begins, and what a name of an upload may have.
 PROGRESS, LONGEST_NAME = "\r\033[K", 60
 # Where a command puts files that somebody takes with him; the private folder of a desk, and its lock.
@@ -75,12 +74,17 @@ class Job:
         if status == 0 or status == FOUND and self.command in FINDING:
             is_audit = self.command == "audit"
             return "Done." if not is_audit else "Something was found." if status else "Nothing was found."
-        is_asked_for = status == FOUND and any(ASKED_FOR in line for line in self.said("stdout"))
+        is_asked_for = self.kind() is Kind.ASKED_FOR
         return "It is asked for, and waits for somebody else." if is_asked_for else NOTHING
+
+    def kind(self) -> Kind:
+        """How it ended, as it has told it; one that was killed has done nothing, as far as anybody knows."""
+        told = outcomes.read(self.out / OUTCOME)
+        return told.kind if told else Kind.NOTHING
 
     def came_late(self) -> bool:
         """Whether it did nothing, since somebody else was quicker: what was typed for it may still be wanted."""
-        return self.is_fault() and any(CAME_LATE in line for line in self.said("stderr"))
+        return self.kind() is Kind.LATE
 
     def is_fault(self) -> bool:
         """Whether it ended without doing what it was asked for."""
@@ -105,7 +109,7 @@ def begin(line: list[str], folder: Path, out: Path) -> Started:
         # (a group of its own: what the command has started is ended with it)
         return subprocess.Popen(
             line, cwd=folder, stdin=subprocess.DEVNULL, stdout=stdout, stderr=stderr, start_new_session=True,
-            env={**os.environ, ASKED: "1", "PYTHONPATH": str(PACKAGE)},
+            env={**os.environ, ASKED: "1"},
         )  # fmt: skip
 
 
@@ -114,20 +118,23 @@ class Jobs:
 
     def __init__(self, office: Path, private: Path, begin: Callable[[list[str], Path, Path], Started] = begin) -> None:
         self.office, self.private, self.lock, self.begin = office, private, threading.Lock(), begin
+        # Files are looked at one upload after another: each may take as much memory as a file may.
+        self.looking = threading.Lock()
         self.jobs: dict[str, Job] = {}
-        # The names of uploads in the order in which they came: it decides who is first.
-        self.uploads: dict[str, list[str]] = {}
+        # The files of uploads in the order in which they came: it decides who is first.
+        self.uploads: dict[str, list[Given]] = {}
 
-    def start(self, number: str, command: str, words: list[str], seen: str, back: str, upload: str, makes: bool) -> Job:
-        """Starts a command, or gives the one that this form has started. It works in the folder of an upload, whose
-        files it names, or in its own; and a command that makes a folder is told one of its own."""
+    def start(self, number: str, command: str, words: list[str], seen: str, back: str, makes: bool) -> Job:
+        """Starts a command, or gives the one that this form has started. It works in a folder of its own, where nothing
+        of others lies; and a command that makes a folder makes it there."""
         with self.lock:
             if number in self.jobs:
                 return self.jobs[number]
             out = Path(tempfile.mkdtemp(prefix="job-", dir=self.private))
             own = [MADE] if makes else []
-            line = [*COMMAND, names["./day"], command, *own, "--office", str(self.office), *words]
-            job = Job(number, command, words, out, self.begin(line, self.private / (upload or out), out), seen, back)
+            told = [main.OUTCOME, str(out / OUTCOME)]
+            line = [*COMMAND, names["./day"], *told, command, *own, "--office", str(self.office), *words]
+            job = Job(number, command, words, out, self.begin(line, out, out), seen, back)
             self.jobs[number] = job
             # (the first ones of many are forgotten, with what they wrote)
             for old in [*self.jobs.values()][: max(len(self.jobs) - MOST_JOBS, 0)]:
@@ -169,19 +176,21 @@ class Jobs:
         shutil.rmtree(self.private / name, ignore_errors=True)
 
     def place_for(self, folder: Path, name: str) -> Path:
-        """Where an upload with this name lies: the name is kept, since it is told, as far as it is one of a file."""
+        """Where an upload with this name lies: under one of the desk. Its own is kept as what is told of it, as far as
+        it is one of a file."""
         plain = "".join(" " if letter in "/\\" or not letter.isprintable() else letter for letter in name)
         plain = plain.strip(" .")[-LONGEST_NAME:].strip(" .") or "file"
-        names = self.uploads[folder.name]
-        free = plain if plain not in names else f"{len(names)} {plain}"
-        names.append(free)
-        return folder / free
+        files = self.uploads[folder.name]
+        free = plain if plain not in (own.name for own in files) else f"{len(files)} {plain}"
+        path = folder / f"upload-{len(files) + 1}"
+        files.append(Given(str(path), free))
+        return path
 
-    def upload(self, name: str) -> list[Path]:
+    def upload(self, name: str) -> list[Given]:
         """The files of an upload, in their order."""
         if name not in self.uploads:
             raise WordsFault("the files are not here any more: choose them again")
-        return [self.private / name / own for own in self.uploads[name]]
+        return [*self.uploads[name]]
 
 
 @contextlib.contextmanager

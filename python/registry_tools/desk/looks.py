@@ -16,6 +16,7 @@ from registry_tools.errors import FileFault, WordsFault
 from registry_tools.office import composing, hand_in, handed, handed_journal, label as labelling, trial, undo
 from registry_tools.office.changes import change
 from registry_tools.office.folder import Office
+from registry_tools.office.given import Given
 from registry_tools.office.incoming import Forms
 from registry_tools.office.journal import Event
 from registry_tools.options import TellingWords
@@ -59,18 +60,17 @@ def copy_of_next(own: Reading) -> Iterator[tuple[Office, handed.HandedIn]]:
             raise
 
 
-def look_at_incoming(own: Reading, paths: list[Path], again: list[tuple[int, int]], dates: str = "") -> Look:
+def look_at_incoming(own: Reading, files: list[Given], again: list[tuple[int, int]], dates: str = "") -> Look:
     """What would come of files, with the rows, by file and line, that are meant once more."""
-    words, forms = [f"{paths[place]}:{line}" for place, line in again], Forms(dates=dates or None)
+    words, forms = [f"{files[place].path}:{line}" for place, line in again], Forms(dates=dates or None)
     try:
         with copy_of_next(own) as (office, there):
-            added = hand_in.look_at(office, there, [*map(str, paths)], "nobody yet", words, forms)
+            added = hand_in.look_at(office, there, files, "nobody yet", words, forms)
             looked = [tried for tried in added.looked if tried.place in added.places()]
             return Look([], None, added, looked, [(i.name, first_rows(there.folder / i.file)) for i in added.parts])
     except hand_in.HadFault as fault:
         # (how it may come once more is told by a button)
-        place = [*map(str, paths)].index(str(fault.path))
-        return Look([str(fault).partition("; --again")[0]], (place, fault.at))
+        return Look([fault.without_way()], (files.index(fault.of), fault.at))
     except (FileFault, WordsFault) as fault:
         return Look(faults_in_words(str(fault)))
 

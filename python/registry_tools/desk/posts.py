@@ -4,15 +4,15 @@ from typing import Any
 
 import flask
 
-from registry_tools.desk import forms, gate, looks
+from registry_tools.desk import forms, gate, log, looks
 from registry_tools.desk.gate import Served
 from registry_tools.desk.shown import ROWS, address_of, outcome, show_page, sorted_table
 from registry_tools.errors import WordsFault
 from registry_tools.office import handed, trial
+from registry_tools.office.given import Given
 from registry_tools.office.people import MAY_WAIT
 from registry_tools.office.trial import Looked, whys
 from registry_tools.office.words import one_line
-from registry_tools.options import word_of
 from registry_tools.pages.beside import BESIDE, side_by_side
 
 ONCE, STATE = re.compile("[0-9a-f]{16}"), re.compile("[0-9a-f]{64}[.][0-9]{1,9}[.][0-9]{1,9}[.][0-9a-f]{16}")
@@ -48,14 +48,14 @@ def way_back() -> str:
     return address_of(path, {name: [word[:LONGEST_FIELD] for word in words] for name, words in typed.items()})
 
 
-def do(served: Served, command: str, *more: str, upload: str = "", makes: bool = False) -> Any:
+def do(served: Served, command: str, *more: str, makes: bool = False) -> Any:
     """Has a command do it, for somebody who saw the folder in the state of the form; and goes to its answer. Raises
     WordsFault if the form has no state."""
     who, state = gate.name(served), form("state")
     if not STATE.fullmatch(state):
         raise WordsFault(NOT_WHOLE)
     words = [f"--who={who}", f"--seen={state}", *gate.speaks_for(served, who), *more]
-    return begin(served, command, *words, seen=state, upload=upload, makes=makes)
+    return begin(served, command, *words, seen=state, makes=makes)
 
 
 def do_with_why(served: Served, command: str, *more: str) -> Any:
@@ -63,9 +63,10 @@ def do_with_why(served: Served, command: str, *more: str) -> Any:
     return do(served, command, f"--why={one_line('why', form('why'))}", *more)
 
 
-def begin(served: Served, command: str, *words: str, seen: str = "", upload: str = "", makes: bool = False) -> Any:
+def begin(served: Served, command: str, *words: str, seen: str = "", makes: bool = False) -> Any:
     """Has a command work, and goes to its answer."""
-    job = served.jobs.start(once(), command, [*words], seen, way_back(), upload, makes)
+    job = served.jobs.start(once(), command, [*words], seen, way_back(), makes)
+    log.begun(command, gate.known_name(served), gate.head().peer)
     return flask.redirect(f"/jobs/{job.number}", 303)
 
 
@@ -93,11 +94,12 @@ def look(served: Served) -> Any:
     if typed and not form("place"):
         rows = forms.rows_of_instruction(flask.request.form)
         served.jobs.place_for(served.jobs.private / place, looks.TYPED).write_bytes(rows)
-    paths, reading, dates = served.jobs.upload(place), served.reading, form("dates")
-    if not paths:
+    files, reading, dates = served.jobs.upload(place), served.reading, form("dates")
+    if not files:
         raise WordsFault("no file was chosen")
-    again = meant_again(len(paths))
-    own = reading.whole(lambda: looks.look_at_incoming(reading, paths, again, dates))
+    again = meant_again(len(files))
+    with served.jobs.looking:
+        own = reading.whole(lambda: looks.look_at_incoming(reading, files, again, dates))
     if own.faults and not own.meant:
         served.jobs.forget_upload(place)
     if own.meant:
@@ -111,7 +113,7 @@ def look(served: Served) -> Any:
         counts=[(i.name, f"{handed.NAMES[i.kind]} {i.count}") for i in own.added.parts] if own.added else [],
         rows=[(own.place, own.words, *proposal(served, own), own.said(), own) for own in refused_first(own.looked)],
         outcomes=trial.counts_of(own.looked),
-        shown_row=lambda row: (*row[:4], outcome(row[5])), names=[path.name for path in paths],
+        shown_row=lambda row: (*row[:4], outcome(row[5])), names=[own.name for own in files],
     )  # fmt: skip
 
 
@@ -137,11 +139,15 @@ def meant_again(count: int) -> list[tuple[int, int]]:
 
 def take(served: Served) -> Any:
     """Has the files of an upload handed in."""
-    place = form("place")
-    files = [word_of(path.name) for path in served.jobs.upload(place)]
-    more = [f"--again={files[own]}:{line}" for own, line in meant_again(len(files))]
+    files = served.jobs.upload(form("place"))
+    more = [f"--again={files[own].path}:{line}" for own, line in meant_again(len(files))]
     more += [f"--dates={form('dates')}"] if form("dates") else []
-    return do(served, "hand-in", *more, "--", *files, upload=place)
+    return do(served, "hand-in", *more, *names_told(files), "--", *(own.path for own in files))
+
+
+def names_told(files: list[Given]) -> list[str]:
+    """The words that say how files are called, which lie under names of the desk."""
+    return [f"--named={own.name}" for own in files]
 
 
 def take_back(served: Served) -> Any:
@@ -177,7 +183,8 @@ def make_change(served: Served) -> Any:
 def look_at_names(served: Served) -> Any:
     """Shows what would be named how, by the form or by a file."""
     place = uploaded(served) if any(own.filename for own in flask.request.files.getlist("files")) else ""
-    rows, doubts = looks.look_at_names(served.reading, words_of_names(served, place))
+    with served.jobs.looking:
+        rows, doubts = looks.look_at_names(served.reading, words_of_names(served, place))
     return show_page(
         "yes", "A look before it is named", lead="Nothing is named yet. This would be:", notes=doubts,
         told=[sorted_table("Before and after", BESIDE, rows)], action="/names/give", button="Yes, name it so",
@@ -188,7 +195,10 @@ def look_at_names(served: Served) -> Any:
 def words_of_names(served: Served, place: str) -> list[str]:
     """The words of ./day label that a form says: a name, or the file of an upload."""
     if place:
-        return [f"--file={served.jobs.upload(place)[0]}"]
+        first = served.jobs.upload(place)[:1]
+        if not first:
+            raise WordsFault("no file was chosen")
+        return [f"--file={first[0].path}", *names_told(first)]
     named = [form("kind"), form("number"), *([form("name")] if form("name") else [])]
     return [*(["--remove"] if len(named) == 2 else []), "--", *named]
 

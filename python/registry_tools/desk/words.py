@@ -2,6 +2,7 @@
 import datetime
 import functools
 import re
+from collections.abc import Callable
 
 from registry_tools.calendars.working_days import MORE_WORK
 from registry_tools.errors import escaped
@@ -75,15 +76,25 @@ def local(at: str) -> str:
 def seen(text: str, office: str, private: str) -> str:
     """The text of a page as it goes out, without paths and commands: files of the folder begin in it, uploads have
     their names, times are of this machine, and a page is named where a command was."""
-    text = re.sub(f"{re.escape(markup(office))}/|{re.escape(markup(private))}/[0-9a-f]+/", "", text)
-    text = re.sub(f"(?:--office )?{re.escape(markup(office))}", "the folder", text)
+    text = outside_tags(text, functools.partial(without_paths, office=office, private=private))
     for what, here in (*AT_THE_DESK.items(), *reasons()):
         text = text.replace(what, here)
-    # (what stands in a tag, as what was typed into a field, stays)
-    parts = re.split("(<[^>]*>)", text)
-    text = "".join(part if part.startswith("<") else in_office_words(part) for part in parts)
+    text = outside_tags(text, in_office_words)
     text = TIME.sub(lambda found: local(found[0]), text)
     return UNSEEN.sub(lambda found: markup(escaped(found[0])), text)
+
+
+def outside_tags(text: str, change: Callable[[str], str]) -> str:
+    """A page whose words are changed: what stands in a tag, as an address and what was typed into a field, stays."""
+    return "".join(part if part.startswith("<") else change(part) for part in re.split("(<[^>]*>)", text))
+
+
+def without_paths(text: str, office: str, private: str) -> str:
+    """A text in which files of the folder begin in it, and uploads have their names. A longer path that only begins or
+    ends as that of the folder is another one."""
+    own, aside = re.escape(markup(office)), re.escape(markup(private))
+    text = re.sub(rf"(?<![\w./-])(?:{own}/|{aside}/[0-9a-f]+/)", "", text)
+    return re.sub(rf"(?:--office )?(?<![\w./-]){own}(?![\w/-]|\.\w)", "the folder", text)
 
 
 @functools.lru_cache(maxsize=1)

@@ -2,8 +2,9 @@
 
 If office.ini lists a command under [four eyes], what it would do waits in next/ for `./day approve`:
 
-  asked-COMMAND-DATE.csv    asked,AT,WHO,LOGIN,COMMAND,DATE,WORDS,STATE,RESULT
-                            a close, undo, release or correct that somebody asked for
+  asked-COMMAND-DATE.csv    asked,AT,WHO,LOGIN,COMMAND,DATE,WORDS,STATE,RESULT,BESIDE
+                            a close, undo, release or correct that somebody asked for; BESIDE is what it adds, by the
+                            commands `hand-in` and `change`
   approved-SUM-SUM.csv      approved,AT,WHO,LOGIN,SUM,WHAT
                             somebody approves what has this sum
 
@@ -12,18 +13,19 @@ journal, and the sum of what was handed in), and the RESULT (the day's text). Of
 of who handed it in and of each of its rows that counts. So an approval is of nothing else than what was approved; what
 changed has another sum.
 
-A name in a file approves nothing. An approval counts if the system says that the file is of the login that it names,
-and that nobody else may write it; if this login may give the command; and if it is another one than the login that
-does it. Each file is put there in one step, and all are gone with the next day that is filed or undone.
+A name in a file asks for nothing and approves nothing. Such a file counts if the system says that it is of the login
+that it names, and that nobody else may write it. An approval counts if this login may give the command, with all that
+it does beside; if it is another one than the login that does it; and if what was handed in has not come through its
+hands. Each file is put there in one step, and all are gone with the next day that is filed or undone.
 """
 import contextlib
 import csv
-import os
-import stat
+from collections.abc import Collection
 from dataclasses import dataclass
 from pathlib import Path
 from typing import Iterator, NamedTuple, Protocol
 
+from registry_tools import outcomes
 from registry_tools.errors import FileFault, shown
 from registry_tools.office import files, handed, journal, people
 from registry_tools.office.handed import APPROVED, ASKED, Approved, HandedIn, Part
@@ -32,15 +34,14 @@ from registry_tools.office.people import PROXY, People
 
 # Which command a file that was handed in waits for, by what it has.
 COMMAND_OF = {handed.DO: "hand-in", handed.WORK: "hand-in", handed.CHANGES: "change", handed.EDITS: "change"}
-ASKED_FORM, APPROVED_FORM = "asked,AT,WHO,LOGIN,COMMAND,DATE,WORDS,STATE,RESULT", "approved,AT,WHO,LOGIN,SUM,WHAT"
+ASKED_FORM = "asked,AT,WHO,LOGIN,COMMAND,DATE,WORDS,STATE,RESULT,BESIDE"
+APPROVED_FORM = "approved,AT,WHO,LOGIN,SUM,WHAT"
 # What takes days back and closes them waits as these do.
 LIKE = {"correct": ("correct", "close", "undo")}
 # By these words a command says that it waits.
 ASKED_FOR = "is asked for, and waits for"
 # So many digits of a sum are the name of a file.
 NAME_DIGITS = 16
-# Nobody but its owner may write an approval.
-MODE, OTHERS_WRITE = 0o644, stat.S_IWGRP | stat.S_IWOTH
 
 
 class Office(Protocol):
@@ -71,6 +72,13 @@ class Asked(NamedTuple):
     words: str
     state: str
     result: str
+    # What it does beside, with a blank between two commands.
+    beside: str
+
+    @property
+    def commands(self) -> tuple[str, ...]:
+        """All commands that whoever approves it has to be allowed."""
+        return (self.command, *self.beside.split())
 
     @property
     def sum(self) -> str:
@@ -110,9 +118,9 @@ class Approvals:
     faults: list[FileFault]
 
 
-def waits(office: Office, command: str) -> bool:
-    """Whether a command waits for another login."""
-    return any(own in office.people.four_eyes for own in LIKE.get(command, (command,)))
+def waits(office: Office, *commands: str) -> bool:
+    """Whether one of these commands waits for another login."""
+    return any(own in office.people.four_eyes for command in commands for own in LIKE.get(command, (command,)))
 
 
 # Reading them.
@@ -148,8 +156,10 @@ def all_asked(office: Office) -> list[Asked]:
     found = []
     for path in named(office.next_folder, ASKED):
         with contextlib.suppress(FileFault):
-            asked = Asked(*row_in(path, files.bytes_in(path), ASKED, ASKED_FORM))
-            if asked.file == path.name and asked.state == state_of(office):
+            content, user = files.owned(path)
+            asked = Asked(*row_in(path, content, ASKED, ASKED_FORM))
+            is_own = people.login_of(user) == people.owner_of(asked.login)
+            if is_own and asked.file == path.name and asked.state == state_of(office):
                 found.append(asked)
     return found
 
@@ -167,36 +177,17 @@ def all_approvals(office: Office) -> Approvals:
 
 def approval_in(office: Office, path: Path) -> Approval:
     """An approval, if the system says that it is of the login that it names. Raises FileFault."""
-    content, owner = owned_bytes(path)
+    content, user = files.owned(path)
     approval = Approval(*row_in(path, content, APPROVED, APPROVED_FORM))
-    own = people.owner_of(approval.login)
+    owner, own = people.login_of(user), people.owner_of(approval.login)
     if owner != own:
         found = f"an approval of {people.person_of(approval.login)} that {owner} has written"
         raise FileFault(path, 0, "LOGIN", found, f"a file of {own}: nobody approves for somebody else")
-    desk = office.people.named.get(own)
-    if own != approval.login and (desk is None or PROXY not in desk.rights):
+    if own != approval.login and not office.people.may_speak(own):
         raise FileFault(path, 0, "LOGIN", shown(approval.login), f"a login: {own} has no right {PROXY}")
     if approval.file != path.name:
         raise FileFault(path, 0, "SUM", shown(approval.sum), "the sum of the name of the file")
     return approval
-
-
-def owned_bytes(path: Path) -> tuple[bytes, str]:
-    """The bytes of a file that nobody but its owner may write, and the login of that one."""
-    try:
-        file = os.open(path, os.O_RDONLY | os.O_NOFOLLOW)
-        try:
-            about = os.fstat(file)
-            with open(file, "rb", closefd=False) as stream:
-                content = stream.read()
-        finally:
-            os.close(file)
-    except OSError as error:
-        raise FileFault(path, 0, "", f"it cannot be read: {error.strerror}", "an approval") from None
-    if not stat.S_ISREG(about.st_mode) or about.st_mode & OTHERS_WRITE:
-        expected = "one that its owner alone may write: approve once more"
-        raise FileFault(path, 0, "", "a file that others may write", expected)
-    return content, people.login_of(about.st_uid)
 
 
 # What waits, and who may let it through.
@@ -209,25 +200,29 @@ def sum_of_part(handed_in: HandedIn, part: Part) -> str:
     return files.sum_of(row_of(said).encode("utf-8", "surrogateescape"))
 
 
-def is_second(office: Office, approval: Approval, command: str, sum_asked: str, login: str) -> bool:
-    """Whether an approval is of this, by another login, which may give the command."""
-    is_other = people.person_of(approval.login) != people.person_of(login)
-    return is_other and approval.sum == sum_asked and office.people.may(approval.login, command)
+def is_second(office: Office, approval: Approval, commands: Collection[str], sum_asked: str, login: str) -> bool:
+    """Whether an approval is of this, by another login, which may give the commands. Of what nobody knows who did it,
+    nobody is the second one."""
+    is_other = bool(login) and people.person_of(approval.login) not in office.people.hands_of(login)
+    return is_other and approval.sum == sum_asked and all(office.people.may(approval.login, own) for own in commands)
+
+
+def needs_second(office: Office, part: Part) -> bool:
+    """Whether a file that was handed in counts only if another login approves it: if all such files do, or if
+    office.ini names people, and does not let whoever handed it in or passed it on do so."""
+    command = COMMAND_OF.get(part.kind)
+    return command is not None and (waits(office, command) or not office.people.may_have(part.login, command))
 
 
 def look_at(office: Office, handed_in: HandedIn) -> None:
     """Notes which of the files that were handed in wait for another login, and who approved the others."""
     # (a row of the journal of next/ approves nothing)
     handed_in.waiting, handed_in.approved = [], []
-    if not any(waits(office, command) for command in COMMAND_OF.values()):
-        return
-    valid = all_approvals(office).valid
-    for part in handed_in.parts:
-        command = COMMAND_OF.get(part.kind)
-        if command is None or not waits(office, command) or not handed_in.left_of(part):
-            continue
-        own = sum_of_part(handed_in, part)
-        by = next((each for each in valid if is_second(office, each, command, own, part.login)), None)
+    asked = [part for part in handed_in.parts if needs_second(office, part) and handed_in.left_of(part)]
+    valid = all_approvals(office).valid if asked else []
+    for part in asked:
+        own, commands = sum_of_part(handed_in, part), (COMMAND_OF[part.kind],)
+        by = next((each for each in valid if is_second(office, each, commands, own, part.login)), None)
         if by is None:
             handed_in.waiting.append(part)
         else:
@@ -237,24 +232,28 @@ def look_at(office: Office, handed_in: HandedIn) -> None:
 def approvers(office: Office, asked: Asked) -> list[str]:
     """The logins that approved what is asked for."""
     there = all_approvals(office).valid
-    return [own.login for own in there if is_second(office, own, asked.command, asked.sum, asked.login)]
+    return [own.login for own in there if is_second(office, own, asked.commands, asked.sum, asked.login)]
 
 
 # Asking and approving.
 
 
-def let_through(office: Office, command: str, date: object, words: str, result: str) -> str | None:
-    """Who approved that this login does this; nothing, if nobody has to. If it has to wait, keeps what is asked for,
-    says so, and answers None."""
-    if not waits(office, command):
+def let_through(
+    office: Office, command: str, date: object, words: str, result: str, beside: Collection[str] = ()
+) -> str | None:
+    """Who approved that this login does this, with what it does beside; nothing, if nobody has to. If it has to wait,
+    keeps what is asked for, says so, and answers None."""
+    if not waits(office, command, *beside):
         return ""
-    asked = Asked(journal.now(), office.who, office.login, command, str(date), words, state_of(office), result)
+    own = journal.now(), office.who, office.login
+    asked = Asked(*own, command, str(date), words, state_of(office), result, " ".join(beside))
     by = approvers(office, asked)
     if by:
         return ", ".join(by)
     remove_stale(office)
     left = put(office, asked.file, row_of([ASKED, *asked]))
-    print(f"{asked} {ASKED_FOR} {second_for(office, command, asked.login)}: {way(asked)}{left}")
+    outcomes.asked_for()
+    print(f"{asked} {ASKED_FOR} {second_for(office, asked.commands, asked.login)}: {way(asked)}{left}")
     return None
 
 
@@ -263,11 +262,13 @@ def way(asked: Asked) -> str:
     return f"./day approve {asked.command} --date {asked.date}"
 
 
-def second_for(office: Office, command: str, login: str) -> str:
+def second_for(office: Office, commands: Collection[str], login: str) -> str:
     """Who may approve what a login asks for, in words."""
+    if not login:
+        return "nobody, since nobody knows who handed it in: take it back, and hand it in once more"
     if not office.people.named:
-        return f"another login than {login}"
-    others = office.people.others_for(command, login)
+        return f"another login than {' and '.join(sorted(office.people.hands_of(login)))}"
+    others = office.people.others_for(commands, login)
     return " or ".join(others) or "somebody else, and office.ini names nobody who may"
 
 
@@ -281,7 +282,7 @@ def approve(office: Office, sum_asked: str, what: str) -> str:
 def put(office: Office, name: str, row: str) -> str:
     """Puts a file into next/, of which this login is the owner, in one step. Answers what could not be done behind it,
     in words."""
-    left = files.step(office.next_folder / name, f"{row}\n".encode("utf-8", "surrogateescape"), MODE)
+    left = files.step(office.next_folder / name, f"{row}\n".encode("utf-8", "surrogateescape"), files.OWN_MODE)
     return f"; {left}" if left else ""
 
 
@@ -290,5 +291,4 @@ def remove_stale(office: Office) -> None:
     known = {asked.file for asked in all_asked(office)}
     for path in named(office.next_folder, ASKED):
         if path.name not in known:
-            with contextlib.suppress(OSError):
-                path.unlink()
+            files.remove(path)

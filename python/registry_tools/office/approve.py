@@ -13,6 +13,7 @@ Nobody approves what the same login asked for, and a name that is typed approves
 system.
 """
 import argparse
+from collections.abc import Collection
 
 from registry_tools import streams
 from registry_tools.calendars import dates
@@ -76,10 +77,9 @@ def part_at(office: Office, handed_in: HandedIn, word: str) -> Part:
     part = handed_in.part_at(int(word)) if word.isascii() and word.isdigit() else None
     if part is None:
         raise WordsFault(f"{word}: expected a place of ./day status, or one of {', '.join(OF_DATES)} with --date")
-    command = COMMAND_OF.get(part.kind)
-    if command is None or not approvals.waits(office, command):
+    if not approvals.needs_second(office, part):
         raise WordsFault(f"place {word} does not wait for another login")
-    must_be_other(office, command, part.who, part.login)
+    must_be_other(office, (COMMAND_OF[part.kind],), part.who, part.login)
     if not handed_in.left_of(part):
         raise WordsFault(f"place {part.start} was taken back")
     return part
@@ -106,11 +106,19 @@ def approve_part(office: Office, handed_in: HandedIn, part: Part) -> None:
     print("\n".join([*(f"  {row}" for item in items for row in item.rows), *becomes]))
 
 
-def must_be_other(office: Office, command: str, who: str, login: str) -> None:
-    """Ends the command if this login asked for it, or may not do it."""
-    if people.person_of(login) == people.person_of(office.login):
+def must_be_other(office: Office, commands: Collection[str], who: str, login: str) -> None:
+    """Ends the command if this login asked for it, passed it on, or may not do it, or if nobody knows who asked."""
+    again = "take it back, and hand it in once more"
+    if not login:
+        raise WordsFault(f"nobody knows who handed it in, and so nobody is the second one: {again}")
+    own = people.person_of(office.login)
+    if people.person_of(login) == own:
         raise WordsFault(f"{awaited.who_did(office, who, login)} asked for it: another login approves it")
-    people.must_be_allowed(office.people, office.login, command)
+    if own in office.people.hands_of(login):
+        passed = f"{own} passed it on when a day was filed or undone"
+        raise WordsFault(f"{passed}, and who did it is told by {own} alone: another login approves it, or {again}")
+    for command in commands:
+        people.must_be_allowed(office.people, office.login, command)
 
 
 # Commands.
@@ -126,7 +134,7 @@ def approve_command(office: Office, said: argparse.Namespace) -> int:
     if not there:
         raise WordsFault(f"nobody asked for {command} of {date} as the folder stands now: ./day {command} asks for it")
     asked = there[0]
-    must_be_other(office, command, asked.who, asked.login)
+    must_be_other(office, asked.commands, asked.who, asked.login)
     must_be_same(office, asked)
     left = approvals.approve(office, asked.sum, str(asked))
     by = awaited.who_did(office, asked.who, asked.login)

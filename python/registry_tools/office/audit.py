@@ -33,7 +33,8 @@ from registry_tools.office import (
     anchors, approvals, files, folder, handed, index, journal, lock, past, settings, settling, words,
 )  # fmt: skip
 from registry_tools.office.audited import (
-    APPROVES_NOTHING, JOURNAL_BACK, JOURNAL_FIRST, NEXT_BACK, OTHER_FOLDER, WAITS_BACK, Audit, compare_texts,
+    APPROVES_NOTHING, JOURNAL_BACK, JOURNAL_FIRST, NEXT_BACK, OTHER_FOLDER, SAY_AGAIN, WAITS_BACK, Audit,
+    compare_texts,
 )  # fmt: skip
 from registry_tools.office.folder import Office
 from registry_tools.office.journal import Journal
@@ -169,7 +170,7 @@ def strange_days(office: Office, named: set[str]) -> Iterator[FileFault]:
 def look_at_next(audit: Audit) -> None:
     """Whether what was handed in for the next day is as it was handed in, and stands behind the last day."""
     try:
-        audit.office.handed_in()
+        audit.add(*audit.office.handed_in().unsaid, mend=SAY_AGAIN)
         audit.add(*approvals.all_approvals(audit.office).faults, mend=APPROVES_NOTHING)
     except FileFault as fault:
         audit.add(fault, mend=NEXT_BACK)

@@ -16,6 +16,7 @@ SETTLE_AGAIN = "./day undo takes the days back to this one, to be closed again; 
 AWAY, NEXT_BACK = "move it to another folder", "put it back from a copy, or take it back and hand it in again"
 WAITS_BACK = "put it back from a copy: else ./day undo and ./day close of the last day write it anew"
 APPROVES_NOTHING = "take the file away: it approves nothing"
+SAY_AGAIN = "take it back, and hand it in once more"
 OTHER_FOLDER = "look for the folder or the copy that has grown from there"
 
 

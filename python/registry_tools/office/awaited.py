@@ -2,7 +2,7 @@
 from typing import Iterator, NamedTuple
 
 from registry_tools.office import folder, handed, handed_journal, past, people
-from registry_tools.office.approvals import COMMAND_OF, Office, all_asked, approvers, second_for, waits, way
+from registry_tools.office.approvals import COMMAND_OF, Office, all_asked, approvers, needs_second, second_for, way
 from registry_tools.office.handed import HandedIn, Part
 from registry_tools.office.journal import Event
 
@@ -31,7 +31,7 @@ def all_waiting(office: Office, handed_in: HandedIn) -> Iterator[Waits]:
     for part in handed_in.waiting:
         command, place = COMMAND_OF[part.kind], str(part.start)
         where, by = handed.places(part.start, part.end), who_did(office, part.who, part.login)
-        second = second_for(office, command, part.login)
+        second = second_for(office, (command,), part.login)
         yield Waits(f"{where}, {command} by {by}, waits for {second}", where, f"./day approve {place}", (place,), part)
     for asked in all_asked(office):
         own, others = who_did(office, asked.who, asked.login), approvers(office, asked)
@@ -39,7 +39,7 @@ def all_waiting(office: Office, handed_in: HandedIn) -> Iterator[Waits]:
             by = ", ".join(map(office.people.in_words, others))
             yield Waits(f"{asked}, asked for by {own}, is approved by {by}", str(asked), "give the command again", ())
         else:
-            second = second_for(office, asked.command, asked.login)
+            second = second_for(office, asked.commands, asked.login)
             line, words = f"{asked}, asked for by {own}, waits for {second}", (asked.command, asked.date)
             yield Waits(line, str(asked), way(asked), words)
 
@@ -52,9 +52,9 @@ def told(office: Office, handed_in: HandedIn) -> list[str]:
 def tell_new(office: Office, parts: list[Part]) -> None:
     """Says of files that were just handed in that they wait."""
     for part in parts:
-        command = COMMAND_OF[part.kind]
-        if waits(office, command):
-            who, where = second_for(office, command, office.login), handed.places(part.start, part.end)
+        if needs_second(office, part):
+            commands = (COMMAND_OF[part.kind],)
+            who, where = second_for(office, commands, office.login), handed.places(part.start, part.end)
             wait, does = ("waits", "does") if part.end == part.start + 1 else ("wait", "do")
             print(f"{where} {wait} for {who}, and {does} not count before: ./day approve {part.start}")
 

@@ -35,6 +35,7 @@ from registry_tools.office.handed import HandedIn
 from registry_tools.office.journal import FILED, FILES, Event
 from registry_tools.office.layout import TABLES
 from registry_tools.office.past import PastDay
+from registry_tools.office.program import named_program
 from registry_tools.office.settling import Engine
 from registry_tools.office.waits import write_waits
 from registry_tools.office.whole_change import Change
@@ -102,7 +103,7 @@ def run(said: argparse.Namespace) -> int:
         settled = settle(office, composed, said.second, said.verify)
         with Change(office) as change:
             event = file_day(office, change.make(prepared.NEW_DAY), mine, settled, approved)
-            there = HandedIn(change.make(prepared.NEW_NEXT), event.line)
+            there = HandedIn(change.make(prepared.NEW_NEXT), event.line, login=office.login)
             handed_files.put_left(there, handed_in, later)
             waiting = change.folder / prepared.NEW_DAY / FILES["waiting"]
             write_waits(there.folder, settled.day, settled.report, str(waiting))
@@ -133,7 +134,7 @@ def left_for_later(handed_in: HandedIn, date: datetime.date) -> list[str]:
 def settle(office: Office, composed: NextDay, by_second: bool, verifies: bool = False) -> Settled:
     """Settles the day, and looks whether the report is that of the day and what the rules make of it."""
     day = composed.day(office.day_folder(composed.date) / FILES["day"])
-    program = office.settings.program
+    program = "" if by_second else named_program(office)
     text = settling.by_rules(day) if by_second else settling.by_engine(program, composed.text)
     engine = settling.SECOND_ANSWER if by_second else settling.engine_of(program)
     whose = "the second answer" if by_second else program or "the program"

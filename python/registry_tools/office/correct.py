@@ -16,7 +16,6 @@ A day that was released is not corrected: others know of it. The command says wh
 exit status: 0 if it is done, 1 if --yes or another login is still needed.
 """
 import argparse
-import os
 import tempfile
 from pathlib import Path
 
@@ -25,10 +24,14 @@ from registry_tools.calendars import dates
 from registry_tools.calendars.due_days import head_after
 from registry_tools.errors import FOUND, WordsFault
 from registry_tools.notes import LOOK
-from registry_tools.office import approvals, correcting, differing, files, folder, incoming, past, prepared, words
+from registry_tools.office import (
+    approvals, correcting, differing, files, folder, incoming, past, people, prepared, words,
+)  # fmt: skip
 from registry_tools.office.close import Settled
 from registry_tools.office.correcting import Correction
 from registry_tools.office.folder import Office
+from registry_tools.office.given import Given
+from registry_tools.office.incoming import Incoming
 from registry_tools.office.journal import Event
 from registry_tools.office.whole_change import Change
 
@@ -76,8 +79,12 @@ def run(said: argparse.Namespace) -> int:
     with words.changing(said, "correct") as office:
         office.handed_in().remove_unnamed()
         must_be_open(office, date, said.without)
-        without = [*dict.fromkeys(said.without)]
-        correction = Correction(office, date, without, said.files, why, said.second, said.verify)
+        without, added = [*dict.fromkeys(said.without)], [incoming.read(Given(path)) for path in said.files]
+        # (what it adds needs what ./day hand-in and ./day change need: the right, and the second one)
+        beside = sorted({approvals.COMMAND_OF[own.kind] for own in added})
+        for command in beside:
+            people.must_be_allowed(office.people, office.login, command)
+        correction = Correction(office, date, without, added, why, said.second, said.verify)
         with Change(office) as change, tempfile.TemporaryDirectory(ignore_cleanup_errors=True) as work:
             events, settled = made(correction, change, Path(work) / "shown", "")
             tell(correction, settled)
@@ -85,7 +92,7 @@ def run(said: argparse.Namespace) -> int:
                 print(f"{date} would be corrected so; nothing is, without --yes")
                 return FOUND
             result = files.sum_of(b"".join(own.composed.text + own.report_text for own in settled))
-            approved = approvals.let_through(office, "correct", date, asked_words(said), result)
+            approved = approvals.let_through(office, "correct", date, asked_words(said, added), result, beside)
             if approved is None:
                 return FOUND
             if approved:
@@ -100,7 +107,8 @@ def run(said: argparse.Namespace) -> int:
 def made(correction: Correction, change: Change, work: Path, approved: str) -> tuple[list[Event], list[Settled]]:
     """The days once more, in the folder of a change."""
     work.mkdir()
-    (change.folder / prepared.OLD_DAYS).mkdir(exist_ok=True)
+    if not (change.folder / prepared.OLD_DAYS).exists():
+        files.make_folder(change.folder / prepared.OLD_DAYS)
     events, settled = correction.made(work, change.make(prepared.NEW_DAYS), approved)
     correction.must_name_the_same(settled)
     return events, settled
@@ -116,11 +124,10 @@ def tell(correction: Correction, settled: list[Settled]) -> None:
     print("".join(f"{note}\n" for note in dict.fromkeys(correction.notes)), end="")
 
 
-def asked_words(said: argparse.Namespace) -> str:
+def asked_words(said: argparse.Namespace, added: list[Incoming]) -> str:
     """What is asked for, so that somebody else can look at it: the files with their rows."""
     parts = [f"--without {record}" for record in said.without]
-    for path in said.files:
-        parts.append(f"--with {os.path.basename(path)} ({'; '.join(incoming.read(path).rows.rows)})")
+    parts += [f"--with {own.given.name} ({'; '.join(own.rows.rows)})" for own in added]
     return " ".join([*parts, *(["--second"] if said.second else []), f"--why {said.why}"])
 
 

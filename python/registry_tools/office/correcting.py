@@ -12,12 +12,13 @@ from typing import Iterator
 from registry_tools.calendars.due_days import NOT_DUE
 from registry_tools.errors import FileFault, WordsFault, raise_first
 from registry_tools.office import (
-    close, composing, files, folder, hand_in, handed_files, incoming, past, prepared, undo, whole_change,
+    close, composing, files, folder, hand_in, handed_files, past, prepared, undo, whole_change,
 )  # fmt: skip
 from registry_tools.office.changes.edits import place_of_row
 from registry_tools.office.close import Settled
 from registry_tools.office.folder import Office
 from registry_tools.office.handed import CHANGES, DO, FIRST, Approved, HandedIn, Taken
+from registry_tools.office.incoming import Incoming
 from registry_tools.office.journal import FILES, UNDONE, Event, Journal, now
 from registry_tools.office.waits import waits_of, write_waits
 from registry_tools.progress import progress
@@ -48,7 +49,7 @@ class Correction:
     office: Office
     date: datetime.date
     without: list[int]
-    paths: list[str]
+    added: list[Incoming]
     why: str
     by_second: bool = False
     verifies: bool = False
@@ -146,8 +147,8 @@ class Correction:
         own.approved = [*approved_again(filed, own)]
         if event.date == self.date:
             here = hand_in.Here(own)
-            for path in self.paths:
-                hand_in.add(self.office, here, incoming.read(path), self.office.who)
+            for each in self.added:
+                hand_in.add(self.office, here, each, self.office.who)
         return own
 
     def leave_out(self, record: int, place: int, filed: HandedIn, contents: dict[str, bytes]) -> None:
@@ -202,7 +203,7 @@ def approved_again(filed: HandedIn, again: HandedIn) -> Iterator[Approved]:
 def keep(correction: Correction, change: whole_change.Change, events: list[Event], settled: Settled) -> None:
     """Has the new days count, with what was handed in since: in one step."""
     since = correction.office.handed_in()
-    there = HandedIn(change.make(prepared.NEW_NEXT), events[-1].line)
+    there = HandedIn(change.make(prepared.NEW_NEXT), events[-1].line, login=correction.office.login)
     handed_files.put_left(there, since, since.parts)
     waiting = change.folder / prepared.NEW_DAYS / str(events[-1].date) / FILES["waiting"]
     write_waits(there.folder, settled.day, settled.report, str(waiting))

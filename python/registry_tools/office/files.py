@@ -9,17 +9,21 @@ import hashlib
 import io
 import os
 import shutil
+import stat
 import zlib
 from collections.abc import Iterator
 from pathlib import Path
 
-from registry_tools import steps
-from registry_tools.errors import of_file
+from registry_tools import opening, steps
+from registry_tools.errors import FileFault, of_file
+from registry_tools.opening import LinkFault
 from registry_tools.output import cannot, write_all, writing
 
 COMPRESSED = ".gz"
 # How hard `gzip` tries: a higher level takes three times as long for a tenth less.
 LEVEL = 6
+# A file by which its owner says something: nobody else may write it.
+OWN_MODE, OTHERS_WRITE = 0o644, stat.S_IWGRP | stat.S_IWOTH
 
 
 def sum_of(content: bytes) -> str:
@@ -51,16 +55,36 @@ def stored(path: Path, content: bytes) -> bytes:
 def bytes_in(path: Path) -> bytes:
     """The bytes of a file, as they lie there."""
     try:
-        return path.read_bytes()
+        return opening.read(path)
     except OSError as error:
         raise of_file(path, f"it cannot be read: {error.strerror}") from None
+
+
+def owned(path: Path) -> tuple[bytes, int]:
+    """The bytes of a file that nobody but its owner may write, and the number of that user. Raises FileFault."""
+    try:
+        file = opening.open_file(path, os.O_RDONLY | os.O_NOFOLLOW)
+        try:
+            about = os.fstat(file)
+            content = b""
+            if stat.S_ISREG(about.st_mode):
+                with open(file, "rb", closefd=False) as stream:
+                    content = stream.read()
+        finally:
+            os.close(file)
+    except OSError as error:
+        raise of_file(path, f"it cannot be read: {error.strerror}") from None
+    if not stat.S_ISREG(about.st_mode) or about.st_mode & OTHERS_WRITE:
+        raise FileFault(path, 0, "", "a file that others may write", "one that its owner alone may write")
+    return content, about.st_uid
 
 
 def packed_lines(path: Path) -> Iterator[str]:
     """The lines of a packed file: only what is asked for is unpacked."""
     try:
-        with gzip.open(path, "rt", encoding="utf-8", errors="surrogateescape") as stream:
-            yield from (line.rstrip("\n") for line in stream)
+        with open(opening.open_file(path, os.O_RDONLY), "rb") as packed:
+            lines = (line.decode("utf-8", "surrogateescape") for line in gzip.GzipFile(fileobj=packed))
+            yield from (line.rstrip("\n") for line in lines)
     except (OSError, EOFError, zlib.error) as error:
         raise of_file(path, f"it cannot be read: {error}") from None
 
@@ -68,14 +92,14 @@ def packed_lines(path: Path) -> Iterator[str]:
 def listed(path: Path) -> list[Path]:
     """What lies in a folder, by name."""
     try:
-        return sorted(path.iterdir())
+        return [path / name for name in opening.listed(path)]
     except OSError as error:
         raise of_file(path, f"it cannot be read: {error.strerror}") from None
 
 
 def sync_folder(path: Path) -> None:
     """Has the names of a folder kept, also if the machine stops."""
-    folder = os.open(path, os.O_RDONLY | os.O_DIRECTORY)
+    folder = opening.open_file(path, opening.FOLDER)
     try:
         os.fsync(folder)
     finally:
@@ -83,12 +107,9 @@ def sync_folder(path: Path) -> None:
 
 
 def write_synced(path: Path, content: bytes, mode: int | None = None) -> None:
-    """Writes a file whose name nobody asks for yet. With a mode it is a new one, of this user."""
+    """Writes a file whose name nobody asks for yet: a new one, of this user."""
     with writing(path):
-        if mode is not None:
-            path.unlink(missing_ok=True)
-        how = os.O_TRUNC if mode is None else os.O_EXCL
-        file = os.open(path, os.O_WRONLY | os.O_CREAT | how, 0o666 if mode is None else mode)
+        file = opening.create(path, 0o666 if mode is None else mode)
         try:
             if mode is not None:
                 # (whatever the mask of the process leaves out: others have to read it)
@@ -106,16 +127,16 @@ def beside(path: Path) -> Path:
 
 def remove_beside(path: Path) -> None:
     """Removes what an interrupted command wrote beside a file."""
-    with contextlib.suppress(OSError):
-        beside(path).unlink(missing_ok=True)
+    with contextlib.suppress(OSError, LinkFault):
+        opening.remove(beside(path))
 
 
-def replace(path: Path, content: bytes) -> None:
+def replace(path: Path, content: bytes, mode: int | None = None) -> None:
     """Puts a file in the place of the one that has this name: in one step."""
     try:
         with writing(path):
-            write_synced(beside(path), content)
-            os.replace(beside(path), path)
+            write_synced(beside(path), content, mode)
+            opening.rename(beside(path), path)
             sync_folder(path.parent)
     finally:
         remove_beside(path)
@@ -127,7 +148,7 @@ def step(path: Path, content: bytes, mode: int | None = None) -> str:
     try:
         write_synced(beside(path), content, mode)
         steps.hold()
-        os.replace(beside(path), path)
+        opening.rename(beside(path), path)
     except OSError as error:
         steps.let_go()
         raise cannot(path, error) from None
@@ -143,13 +164,19 @@ def step(path: Path, content: bytes, mode: int | None = None) -> str:
 def make_folder(path: Path) -> None:
     """Makes a folder. Raises FileFault if that cannot be done."""
     with writing(path):
-        path.mkdir()
+        opening.new_folder(path)
+
+
+def remove(path: Path) -> None:
+    """Takes a file away, if it is there and the system lets it."""
+    with contextlib.suppress(OSError):
+        opening.remove(path)
 
 
 def move(old: Path, new: Path) -> None:
     """Gives a file or folder another name."""
     with writing(new):
-        os.rename(old, new)
+        opening.rename(old, new)
         sync_folder(new.parent)
         if old.parent != new.parent:
             sync_folder(old.parent)
@@ -159,7 +186,7 @@ def sync_tree(path: Path) -> None:
     """Has all names below a folder kept. Its files were synced when they were written, or are synced now."""
     for folder, _, names in os.walk(path):
         for name in names:
-            file = os.open(os.path.join(folder, name), os.O_RDONLY)
+            file = opening.open_file(os.path.join(folder, name), os.O_RDONLY)
             try:
                 os.fsync(file)
             finally:
@@ -169,4 +196,6 @@ def sync_tree(path: Path) -> None:
 
 def remove_tree(path: Path) -> None:
     """Removes a folder that nobody asks for. What cannot be removed stays, and is removed another time."""
-    shutil.rmtree(path, ignore_errors=True)
+    with contextlib.suppress(OSError), opening.at(path) as (folder, name):
+        # (the folder that was opened, also if another one has its name by now)
+        shutil.rmtree(name if folder is None else f"/proc/self/fd/{folder}/{name}", ignore_errors=True)

@@ -20,6 +20,7 @@ from dataclasses import dataclass
 from pathlib import Path
 from typing import Iterator
 
+from registry_tools import opening
 from registry_tools.errors import FileFault, WordsFault, of_file, raise_first, shown
 from registry_tools.office import approvals, files, handed, handed_journal, journal, lock, prepared, settings, sources
 from registry_tools.office.journal import Event, Journal
@@ -27,6 +28,7 @@ from registry_tools.office.layout import DAYS, JOURNAL, LABELS, NEXT, PAPERS, SE
 from registry_tools.office.people import People
 from registry_tools.office.settings import Settings
 from registry_tools.office.sources import Source
+from registry_tools.opening import LinkFault
 
 # What to do about a filed file that is not as it was filed.
 PUT_BACK = "put it back as it was filed"
@@ -85,7 +87,12 @@ class Office:
     def changed_files(self, event: Event) -> Iterator[FileFault]:
         """The files of a day that are not as they were filed."""
         folder = self.day_folder(event.date)
-        if not folder.is_dir():
+        try:
+            files.listed(folder)
+        except LinkFault as fault:
+            yield fault
+            return
+        except FileFault:
             expected = f"the files of a day, as {self.journal.path} says: put the folder back, from a copy"
             yield FileFault(folder, 0, "", "no folder", expected)
             return
@@ -186,11 +193,13 @@ def folder_of(word: str | None) -> Path:
         path, where, ways = Path("."), "this folder", f"--office FOLDER or {VARIABLE} names one, ./day init makes one"
     if not (path / SETTINGS).is_file():
         raise WordsFault(f"{where} is no folder of days: it has no {SETTINGS}; {ways}")
+    opening.guard(path)
     return path
 
 
 def read_office(path: Path) -> Office:
     """The folder at a path. Raises FileFault if its settings or its journal cannot be read."""
+    opening.guard(path)
     return Office(path, settings.read(path / SETTINGS), journal.read(path / JOURNAL))
 
 

@@ -24,6 +24,7 @@ from registry_tools.office import (
 )  # fmt: skip
 from registry_tools.office.composing import NextDay
 from registry_tools.office.folder import Office
+from registry_tools.office.given import Given, add_named, given
 from registry_tools.office.handed import CHANGES, DO, HandedIn, Part, places
 from registry_tools.office.incoming import Forms, Incoming
 from registry_tools.office.waits import waits_of
@@ -37,18 +38,19 @@ def add_words(parser: argparse.ArgumentParser) -> None:
     again = "a row that is meant once more, by its line, or by the place of the one that was handed in"
     parser.add_argument("--again", metavar="FILE:LINE|PLACE", nargs=1, default=[], help=again)
     incoming.add_words(parser)
+    add_named(parser)
     words.add_office(parser)
     words.add_who(parser)
 
 
 def run(said: argparse.Namespace) -> int:
     """Runs the command, and answers the exit status."""
-    forms = incoming.forms_of(said)
+    forms, own = incoming.forms_of(said), given(said.files, said.called)
     with words.changing(said, "hand-in") as office:
         handed_in = office.handed_in()
         handed_in.remove_unnamed()
         try:
-            added = look_at(office, handed_in, said.files, office.who, said.again, forms)
+            added = look_at(office, handed_in, own, office.who, said.again, forms)
             left = handed_in.make_count()
         except BaseException:
             # (what does not count is taken away at once)
@@ -79,12 +81,12 @@ class Added:
 
 
 def look_at(
-    office: Office, handed_in: HandedIn, paths: list[str], who: str, again: Sequence[str] = (), forms: Forms = Forms()
+    office: Office, handed_in: HandedIn, own: list[Given], who: str, again: Sequence[str] = (), forms: Forms = Forms()
 ) -> Added:
     """Puts files into the folder of what was handed in, where they do not count yet, and tries the next day with them.
     Ends the command at a fault of a file, or of the next day as a whole."""
-    here = Here(handed_in, *meant_again(paths, again))
-    parts = [add(office, here, incoming.read(path, forms), who) for path in paths]
+    here = Here(handed_in, *meant_again([each.path for each in own], again))
+    parts = [add(office, here, incoming.read(each, forms), who) for each in own]
     date = composing.settlement_date(None, office, handed_in)
     next_day = composing.compose(office, handed_in.until(date), date)
     names = labels.of_folder(office.path)
@@ -122,19 +124,20 @@ class Here:
         """The file of this command that a part is, in words; nothing, if it was handed in before."""
         return next((f"{path}, named in this command" for own, path in self.named if own is part), "")
 
-    def takes(self, path: str, line: int, before: "Before") -> bool:
+    def takes(self, own: Given, line: int, before: "Before") -> bool:
         """Whether something that the folder has had comes again: if a day refused it, or the words say that it is
         meant."""
-        is_meant = (path, line) in self.lines or before.place in self.numbers
+        is_meant = (own.path, line) in self.lines or before.place in self.numbers
         if is_meant or before.may_come:
-            self.told.append(f"{path}:{line}: {before.words}")
+            self.told.append(f"{own.told}:{line}: {before.words}")
         return is_meant or before.may_come
 
 
 class HadFault(FileFault):
-    """A row or a file that the folder has had before. By `path` and `at`, its line, it may come once more."""
+    """A row or a file that the folder has had before. By `of`, the file as it was given, and `at`, its line, it may
+    come once more."""
 
-    at = 0
+    of, at = Given(""), 0
 
 
 class Before(NamedTuple):
@@ -148,16 +151,17 @@ class Before(NamedTuple):
 
 def add(office: Office, here: Here, own: Incoming, who: str) -> Part:
     """Puts a file into next/, where it does not count yet."""
-    for line in (line for path, line in here.lines if path == own.path and line not in own.begun):
+    meant = (line for path, line in here.lines if path == own.given.path)
+    for line in (line for line in meant if line not in own.begun):
         raise WordsFault(f"--again {own.path}:{line}: no instruction or account begins there")
+    # (an account that is handed in as a whole is changed by hand; and ./day correct adds what others hand in)
+    people.must_be_allowed(office.people, office.login, approvals.COMMAND_OF[own.kind])
     if own.kind == DO:
         refuse_instructions(office, here, own)
     if own.kind == CHANGES:
-        # (an account that is handed in as a whole is changed by hand)
-        people.must_be_allowed(office.people, office.login, approvals.COMMAND_OF[own.kind])
         refuse_accounts(here, own)
         refuse_blocks(office, here, own)
-    part = handed_files.put(here.handed_in, own.kind, own.content, own.count, own.name, who, own.originals)
+    part = handed_files.put(here.handed_in, own.kind, own.content, own.count, own.given.name, who, own.originals)
     here.named.append((part, own.path))
     return part
 
@@ -166,7 +170,7 @@ def refuse(office: Office, here: Here, own: Incoming, line: int, what: tuple[str
     """Ends the command at something that the folder has had, unless it may come again. If the whole file is one that it
     has had, that is told."""
     path, there = own.path, here.handed_in
-    if here.takes(path, line, before):
+    if here.takes(own.given, line, before):
         return
     checksum = files.sum_of(own.content)
     same = next((part for part in there.parts if part.sum == checksum and there.left_of(part)), None)
@@ -174,11 +178,11 @@ def refuse(office: Office, here: Here, own: Incoming, line: int, what: tuple[str
     more = f"--again {path}:{line} hands in once more what stands there"
     if when:
         found = (same and here.named_as(same)) or f"was handed in {when}"
-        fault = HadFault(path, 0, "file", f"the same as {found}", f"another file; {more}")
+        fault = HadFault(path, 0, "file", f"the same as {found}", "another file")
     else:
         name, expected = what
-        fault = HadFault(path, line, name, before.words, f"{expected}; {more}")
-    fault.at = line
+        fault = HadFault(path, line, name, before.words, expected)
+    fault.of, fault.at, fault.way = own.given, line, more
     raise fault
 
 

@@ -10,6 +10,8 @@
   approved,AT,WHO,PLACE,LOGIN
                           of a settled day: who approved the items from this place on (office/approvals.py)
 
+A LOGIN counts as far as a file of that login says it too (office/said.py).
+
 KIND says what the items are: `first` instructions of the first day text, `do` instructions, `changes` accounts, `edits`
 differences (office/changes/edits.py), whose NAME is the reason, `work` working days. Places count the items of all
 files from 1, also of those that were taken back, so a place stays what it is. DAY is that of an undone day of which the
@@ -17,7 +19,6 @@ file was: it comes into no earlier one. LOGIN is the system's name of who did it
 name, NUMBER-KIND.csv, that the journal does not name is of a command that was interrupted: it does not count, and is
 removed. Any other file is refused, and stays as it is; those of approvals count by themselves.
 """
-import contextlib
 import datetime
 import re
 from dataclasses import dataclass, field
@@ -25,7 +26,7 @@ from pathlib import Path
 from typing import Iterator
 
 from registry_tools.errors import FileFault
-from registry_tools.office import files, sources
+from registry_tools.office import files, people, said, sources
 from registry_tools.office.files import replace
 from registry_tools.office.journal import row_of
 from registry_tools.office.sources import Source
@@ -38,7 +39,7 @@ FIRST, DO, CHANGES, EDITS, WORK = KINDS = ("first", "do", "changes", "edits", "w
 NAMES = {DO: "instructions", CHANGES: "accounts", EDITS: "changes", WORK: "working days"}
 # A file that was handed in, and those that a command makes here, or begins to make.
 FILE = re.compile(r"[0-9]{4,}-[a-z]+\.csv", re.ASCII)
-OWN_FILE = re.compile(rf"{FILE.pattern}|{sources.NAME.pattern}|\..*\.new")
+OWN_FILE = re.compile(rf"{FILE.pattern}|{sources.NAME.pattern}|{said.NAME.pattern}|\..*\.new")
 # What was asked for, and who approved it: each is a file of its own, of the login that it names.
 ASKED, APPROVED = "asked", "approved"
 OF_APPROVALS = re.compile(rf"({ASKED}|{APPROVED})-[0-9a-z-]+\.csv", re.ASCII)
@@ -141,6 +142,8 @@ class HandedIn:
     waiting: list[Part] = field(default_factory=list)
     # Who hands in more.
     login: str = ""
+    # The rows of which no file of their login says the same.
+    unsaid: list[FileFault] = field(default_factory=list)
 
     @property
     def end(self) -> int:
@@ -194,25 +197,38 @@ class HandedIn:
         """What the rows of tables were made of."""
         return (own for part in self.parts for own in part.sources)
 
+    def done(self) -> list["Part | Taken"]:
+        """All that somebody did here."""
+        return [*self.parts, *self.taken]
+
+    def say(self) -> None:
+        """Has the login that writes here say what it has done, before it counts."""
+        own = people.owner_of(self.login)
+        done = [each.row() for each in self.done() if each.login and people.owner_of(each.login) == own]
+        if done:
+            said.keep(self.folder, own, self.base, done)
+
     def keep(self) -> None:
         """Writes what is said here, in a folder that does not count yet."""
+        self.say()
         replace(self.folder / NAME, self.text().encode("utf-8", "surrogateescape"))
 
     def make_count(self) -> str:
         """Makes what is said here count, in one step. Answers what could not be done behind it, in words."""
+        self.say()
         return files.step(self.folder / NAME, self.text().encode("utf-8", "surrogateescape"))
 
     def unnamed(self) -> Iterator[Path]:
         """The files that do not count."""
         named = {NAME, LOOKED, WAITS, *(part.file for part in self.parts), *(own.file for own in self.sources())}
+        named |= {said.name_of(people.owner_of(own.login)) for own in self.done() if own.login}
         there = (path for path in files.listed(self.folder) if path.name not in named)
         return (path for path in there if not OF_APPROVALS.fullmatch(path.name))
 
     def remove_unnamed(self) -> None:
         """Removes files that do not count: they are of a command that did not come to its end."""
         for path in self.unnamed():
-            with contextlib.suppress(OSError):
-                path.unlink(missing_ok=True)
+            files.remove(path)
 
     def must_be_of_commands(self) -> None:
         """Ends the command if a file lies here that no command has made: with the next day it would be gone."""

@@ -4,7 +4,7 @@ from pathlib import Path
 from typing import Iterable, Iterator
 
 from registry_tools.errors import FileFault, visible
-from registry_tools.office import journal, sources
+from registry_tools.office import journal, people, sources
 from registry_tools.office.files import sum_of, write_synced
 from registry_tools.office.handed import FIRST, KINDS, HandedIn, Part, begins_item
 from registry_tools.office.layout import TABLES
@@ -33,7 +33,7 @@ def put_again(
     """Puts what was handed in before into another next/, with who did it and when, and with what it was made of, which
     lies in the folder `tables`."""
     part = put(handed, old.kind, content, count, old.name, old.who, sources.originals_of(tables, old.sources))
-    part.at, part.earliest, part.login = old.at, earliest, old.login
+    part.at, part.earliest, part.login = old.at, earliest, people.passed_on(old.login, handed.login)
 
 
 def put_left(handed: HandedIn, old: HandedIn, parts: Iterable[Part]) -> None:
@@ -45,10 +45,12 @@ def put_left(handed: HandedIn, old: HandedIn, parts: Iterable[Part]) -> None:
             put_again(handed, part, content, len(left), part.earliest, old.folder)
 
 
-def again(folder: Path, base: str, filed: HandedIn, contents: dict[str, bytes], date: datetime.date) -> HandedIn:
-    """Puts into an empty next/ what an undone day was made of: what was not taken back, with who handed in each
-    file."""
-    handed = HandedIn(folder, base)
+def again(
+    folder: Path, base: str, filed: HandedIn, contents: dict[str, bytes], date: datetime.date, login: str = ""
+) -> HandedIn:
+    """Puts into an empty next/ what an undone day was made of: what was not taken back, with who handed in each file,
+    as a login says."""
+    handed = HandedIn(folder, base, login=login)
     left = {kind: items_of_text(filed.folder / f"{kind}.csv", kind, contents[kind]) for kind in KINDS if kind != FIRST}
     for part in filed.parts:
         if part.kind == FIRST:

@@ -6,7 +6,7 @@ from pathlib import Path
 from typing import Iterator
 
 from registry_tools.errors import FileFault, raise_first, shown
-from registry_tools.office import sources
+from registry_tools.office import people, said, sources
 from registry_tools.office.files import bytes_in, sum_of
 from registry_tools.office.handed import (
     APPROVED, DO, FILE, FIRST, KINDS, NAME, Approved, HandedIn, Part, Taken, begins_item,
@@ -22,6 +22,7 @@ def read(folder: Path) -> HandedIn:
     """What is in next/: each file is what it was when it was handed in."""
     path = folder / NAME
     handed = read_journal(path)
+    believe(handed, path)
     for part in handed.parts:
         there = sum_of(bytes_in(folder / part.file))
         if there != part.sum:
@@ -34,6 +35,17 @@ def read(folder: Path) -> HandedIn:
     raise_first(sources.changed(folder / own.file, own) for own in handed.sources())
     handed.must_be_of_commands()
     return handed
+
+
+def believe(handed: HandedIn, path: Path) -> None:
+    """Forgets each login that no file of its own says, and notes these."""
+    there = said.rows_said(handed.folder, handed.base)
+    for own in handed.done():
+        login = people.owner_of(own.login)
+        if login and (own.row(), login) not in there:
+            expected = f"one that says the same in its own file, {said.name_of(login)}: nobody knows who did it"
+            handed.unsaid.append(FileFault(path, 0, "LOGIN", shown(own.login), expected))
+            own.login = ""
 
 
 def read_journal(path: Path) -> HandedIn:

@@ -2,19 +2,19 @@
 first row names columns, or whatever is handed in with a mapping."""
 import argparse
 import csv
-import os
 from collections.abc import Sequence
-from dataclasses import dataclass
+from dataclasses import dataclass, replace
 
 from registry_tools.errors import FileFault, shown
+from registry_tools.office.given import Given
 from registry_tools.office.handed import CHANGES, DO, WORK, begins_item
 from registry_tools.office.sources import MAPPING, TABLE, Original
 from registry_tools.second import faults
-from registry_tools.sheets import columns, importing, sheets
+from registry_tools.sheets import columns, importing, limits, sheets
 from registry_tools.sheets.mapping import Mapping
 from registry_tools.sheets.table import OTHER_HEADINGS
 from registry_tools.texts.day_text import read_blocks, read_rows_of, reading_of_any_day
-from registry_tools.texts.rows import Rows, bytes_of, packed_bytes_of, rows_of, rows_of_text, text_of_rows
+from registry_tools.texts.rows import Rows, packed_bytes_of, rows_of_text, text_of_rows, unpacked
 
 UTF_16 = (b"\xff\xfe", b"\xfe\xff")
 TAGS = ("do", "work", "account")
@@ -39,7 +39,7 @@ class Incoming:
     """A file that is handed in: what it has, its rows with the lines or the rows of the table where they stand, how
     many things it has, the content that is kept, and what it was made of."""
 
-    path: str
+    given: Given
     kind: str
     rows: Rows
     count: int
@@ -47,9 +47,9 @@ class Incoming:
     originals: Sequence[Original] = ()
 
     @property
-    def name(self) -> str:
-        """What the file is called."""
-        return os.path.basename(self.path)
+    def path(self) -> str:
+        """What the file is called in what is told of it."""
+        return self.given.told
 
     @property
     def begun(self) -> list[int]:
@@ -83,20 +83,30 @@ def forms_of(said: argparse.Namespace) -> Forms:
     return Forms(importing.read_mapping(said.mapping), said.dates, are_accounts)
 
 
-def read(path: str, forms: Forms = Forms()) -> Incoming:
+def read(own: Given, forms: Forms = Forms()) -> Incoming:
     """What a file hands in. Ends the command at the first fault of a row, or with all those of a table's cells."""
-    content = packed_bytes_of(path)
+    content = packed_bytes_of(own.path)
     if forms.mapping.path or is_table(content):
-        return read_table(path, content, forms)
-    source = rows_of(path)
+        return read_table(own, content, forms)
+    content = text_handed_in(own, content)
+    source = rows_of_text(own.told, content.decode("utf-8-sig", "surrogateescape"))
     kind = kind_of_rows(source)
-    count = checked_count(path, kind)
     # (checking takes the row `end` away)
-    return Incoming(path, kind, rows_of(path), count, bytes_of(path))
+    count = checked_count(replace(source, rows=[*source.rows]), kind)
+    return Incoming(own, kind, source, count, content)
 
 
-def read_table(path: str, content: bytes, forms: Forms) -> Incoming:
+def text_handed_in(own: Given, content: bytes) -> bytes:
+    """The text that a file with this content hands in. Raises FileFault if it is too long."""
+    limits.must_have_room(own.told, content)
+    text = unpacked(own.told, content, limits.MOST_BYTES)
+    limits.must_have_lines(own.told, text)
+    return text
+
+
+def read_table(own: Given, content: bytes, forms: Forms) -> Incoming:
     """What a table hands in."""
+    path = own.told
     made = importing.imported(sheets.read_content(path, content), forms.are_accounts, forms.dates, forms.mapping)
     if made.wrong:
         raise TableFault(path, made.wrong)
@@ -104,12 +114,12 @@ def read_table(path: str, content: bytes, forms: Forms) -> Incoming:
     if not made.made:
         raise FileFault(path, 0, "", "no row below the names of the columns", "at least one")
     rows = Rows(path, made.rows, made.lines)
-    originals = [Original(TABLE, ending_of(content), content, os.path.basename(path))]
+    originals = [Original(TABLE, ending_of(content), content, own.name)]
     if forms.mapping.path:
-        own = forms.mapping.path
-        originals.append(Original(MAPPING, ".ini", packed_bytes_of(own), os.path.basename(own)))
+        mapping = Given(forms.mapping.path)
+        originals.append(Original(MAPPING, ".ini", packed_bytes_of(mapping.path), mapping.name))
     checked_count(Rows(path, [*rows.rows], rows.lines), kind)
-    return Incoming(path, kind, rows, len(made.made), text_of_rows(made.rows), originals)
+    return Incoming(own, kind, rows, len(made.made), text_of_rows(made.rows), originals)
 
 
 def is_table(content: bytes) -> bool:
@@ -141,10 +151,10 @@ def kind_of_rows(source: Rows) -> str:
     raise source.fault(0, "tag", shown(tag), EXPECTED)
 
 
-def checked_count(path: str | Rows, kind: str) -> int:
+def checked_count(source: Rows, kind: str) -> int:
     """How many items a file has, each of which has no fault. Ends the command at the first fault."""
     if kind == DO:
-        return len(read_rows_of("do", path, faults.Reading(last="do")))
+        return len(read_rows_of("do", source, faults.Reading(last="do")))
     if kind == WORK:
-        return len(read_rows_of("work", path, faults.Reading(last="lags")))
-    return len(read_blocks(path, reading_of_any_day()))
+        return len(read_rows_of("work", source, faults.Reading(last="lags")))
+    return len(read_blocks(source, reading_of_any_day()))

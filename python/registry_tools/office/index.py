@@ -2,7 +2,9 @@
 
 It is never the truth. It says which lines of the journal it was made of: it is made anew, or brought up to the
 journal, whenever these are not the days of the folder; so a folder without it works, and anybody may take it away. A
-command that files a day adds it. Where the folder may not be written, an index is made aside, for one command.
+command that files a day adds it. Who could write an index could have it answer anything: so the one in the folder is
+that of the folder's owner, and is used where nobody else may write it or the folder. Everybody else has one of their
+own, in the cache of their login.
 
 Nobody is answered of days whose files somebody changed. Their sums would take as long as to read them: so the index
 keeps the size and the time of each file, and the sum is asked where one of them is another one.
@@ -19,7 +21,7 @@ from registry_tools.errors import FileFault, of_file, shown
 from registry_tools.office import daybase, files, past
 from registry_tools.office.folder import Office
 from registry_tools.office.journal import Event
-from registry_tools.office.layout import INDEX
+from registry_tools.office.index_place import is_owned_alone, own_place, path_of, place_for
 from registry_tools.office.past import PastDay
 from registry_tools.progress import progress
 from registry_tools.texts.rows import text_of_rows
@@ -31,11 +33,6 @@ MOST_SECONDS = 3_600
 FILED = "CREATE TABLE filed (date TEXT PRIMARY KEY, line TEXT NOT NULL, looks TEXT NOT NULL) STRICT"
 # What a reader of it keeps in memory of the file, in KiB.
 CACHE = 64 * 1024
-
-
-def path_of(office: Office) -> Path:
-    """The path of the index."""
-    return office.path / INDEX
 
 
 @contextlib.contextmanager
@@ -73,36 +70,46 @@ def looks_of(office: Office, event: Event) -> str:
 
 def brought_up(office: Office) -> sqlite3.Connection:
     """The index with all days of the folder."""
-    if office.aside is not None:
-        return looked_at(office, office.aside)
-    begin(path_of(office))
+    is_owned = is_owned_alone(office)
+    if office.aside is not None or not is_owned or os.stat(office.path).st_uid != os.getuid():
+        return looked_at(office, office.aside or own_place(office), is_owned)
+    return kept_at(office, path_of(office))
+
+
+def kept_at(office: Office, path: Path) -> sqlite3.Connection:
+    """An index of this login, in a folder that nobody else may write."""
+    begin(path)
     try:
-        return connected(office, str(path_of(office)))
+        return connected(office, str(path))
     except sqlite3.OperationalError:
         # (nobody may write there, or the disk is full)
         return connected(office, "")
     except sqlite3.DatabaseError:
         # (it is no database, or a broken one)
-        path_of(office).unlink(missing_ok=True)
-        begin(path_of(office))
-        return connected(office, str(path_of(office)))
+        path.unlink(missing_ok=True)
+        begin(path)
+        return connected(office, str(path))
 
 
 def begin(path: Path) -> None:
-    """Makes an empty index if there is none, which whoever may write the folder may write: SQLite would let its owner
-    alone, so that another login made one for each question."""
+    """Makes an empty index if there is none, or none that its owner alone may write."""
     with contextlib.suppress(OSError):
-        os.close(os.open(path, os.O_RDWR | os.O_CREAT, 0o666))
+        if path.exists() and path.stat().st_mode & files.OTHERS_WRITE:
+            path.unlink()
+        os.close(os.open(path, os.O_RDWR | os.O_CREAT | os.O_NOFOLLOW, files.OWN_MODE))
 
 
-def looked_at(office: Office, aside: Path) -> sqlite3.Connection:
-    """The index of the folder, which is not written, if it has all days; else one that is kept aside."""
+def looked_at(office: Office, aside: Path | None, is_owned: bool) -> sqlite3.Connection:
+    """The index of the folder, which is not written, if it has all days and is that of the folder's owner; else one
+    that is kept aside, or for one command."""
+    if not is_owned:
+        return kept_at(office, aside) if aside else connected(office, "")
     with contextlib.suppress(sqlite3.Error):
         database = sqlite3.connect(f"{path_of(office).resolve().as_uri()}?mode=ro", isolation_level=None, uri=True)
         if is_up(database, office):
             return database
         database.close()
-    return connected(office, str(aside))
+    return kept_at(office, aside) if aside else connected(office, "")
 
 
 def connected(office: Office, name: str) -> sqlite3.Connection:
@@ -203,8 +210,10 @@ def sums_of_pair(past_day: PastDay) -> tuple[str, str]:
 
 def keep_up(office: Office, event: Event, past_day: PastDay) -> None:
     """Adds the day that was just filed, if the index has all days before. If it can't be, the next question does it."""
-    path, before = path_of(office), lines_of(office.journal.filed())[:-1]
-    if before and not path.exists():
+    is_owner = os.stat(office.path).st_uid == os.getuid()
+    path = path_of(office) if is_owner and is_owned_alone(office) else own_place(office)
+    before = lines_of(office.journal.filed())[:-1]
+    if path is None or (before and not path.exists()):
         return
     begin(path)
     with contextlib.suppress(sqlite3.Error, OSError):
@@ -231,19 +240,19 @@ def copy(database: sqlite3.Connection, target: sqlite3.Connection) -> None:
 
 @contextlib.contextmanager
 def there(office: Office) -> Iterator[sqlite3.Connection | None]:
-    """The index as it lies there; None, if there is none, or one that the next question makes anew."""
+    """The index that this login is answered from; None, if there is none, or one that the next question makes anew."""
     with contextlib.ExitStack() as stack:
-        found = None
-        if path_of(office).exists():
+        found, path = None, place_for(office)
+        if path is not None and path.exists():
             with contextlib.suppress(sqlite3.Error):
-                database = stack.enter_context(contextlib.closing(sqlite3.connect(path_of(office))))
+                database = stack.enter_context(contextlib.closing(sqlite3.connect(path)))
                 found = database if is_up(database, office) else None
         yield found
 
 
 def differences_from_files(database: sqlite3.Connection, office: Office, past_day: PastDay) -> Iterator[FileFault]:
     """In which tables the index has other rows of a day than its files."""
-    path = path_of(office)
+    path = place_for(office) or path_of(office)
     expected = {table: [*rows] for table, rows in daybase.rows_of_day(past_day, sums_of_pair(past_day))}
     for table, there in daybase.rows_there(database, past_day.date):
         own, wanted = {*there}, {*expected[table]}

@@ -11,7 +11,10 @@ from pathlib import Path
 
 from registry_tools import streams
 from registry_tools.errors import FileFault, WordsFault
-from registry_tools.office import files, folder, handed, handed_files, journal, lock, people, whole_change, words
+from registry_tools.office import (
+    approvals, files, folder, handed, handed_files, journal, lock, people, whole_change, words,
+)  # fmt: skip
+from registry_tools.office.folder import Office
 from registry_tools.office.layout import DAYS, JOURNAL, NEXT, SETTINGS
 from registry_tools.office.settings import Settings
 from registry_tools.output import NewFolder
@@ -79,6 +82,16 @@ def make(path: Path, said: argparse.Namespace, who: str, first: DayText, content
         folder.tell_left(f"{path} is made", f"it may be lost if the machine stops: {error.strerror}")
 
 
+def must_need_no_second(office: Office, first: DayText) -> None:
+    """Ends the command if another first text would change or hand in what this login may not, or not alone."""
+    commands = ["change", *(["hand-in"] if first.instructions else [])]
+    for command in commands:
+        people.must_be_allowed(office.people, office.login, command)
+        if approvals.waits(office, command):
+            out = f"take {command} out of [{people.FOUR_EYES}] of {SETTINGS} until then, or make a new folder"
+            raise WordsFault(f"{command} waits for another login, and a first text cannot: {out}")
+
+
 def change_first(path: Path, said: argparse.Namespace, first: DayText, content: bytes) -> None:
     """Puts another first text into a folder that has no settled day yet."""
     said.office = str(path)
@@ -87,6 +100,7 @@ def change_first(path: Path, said: argparse.Namespace, first: DayText, content: 
             raise FileFault(path, 0, "", "a folder with settled days", "a folder without settled days, or a new one")
         if said.program or said.statements or said.pages:
             raise WordsFault(f"{path} is there: change its {SETTINGS} with an editor")
+        must_need_no_second(office, first)
         old = office.handed_in()
         there = handed.HandedIn(office.next_folder, old.base)
         there.login = office.login

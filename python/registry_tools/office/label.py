@@ -22,16 +22,17 @@ from registry_tools.errors import FileFault, WordsFault, shown
 from registry_tools.notes import LOOK, first_of
 from registry_tools.office import composing, files, folder, journal, labels, words
 from registry_tools.office.folder import Office
-from registry_tools.office.incoming import TableFault
+from registry_tools.office.given import Given, add_named, given
+from registry_tools.office.incoming import TableFault, text_handed_in
 from registry_tools.office.journal import LABELLED, Event
 from registry_tools.office.labels import ACCOUNT, COLUMNS, HOLDER, KINDS, USER, Label, Labels
 from registry_tools.office.layout import LABELS
 from registry_tools.office.whole_change import Change
-from registry_tools.sheets import mapping as mappings, sheets
+from registry_tools.sheets import importing, mapping as mappings, sheets
 from registry_tools.sheets.mapping import Mapping
 from registry_tools.sheets.table import Table
 from registry_tools.texts.in_words import as_looked_up
-from registry_tools.texts.rows import packed_bytes_of, rows_of, rows_of_text
+from registry_tools.texts.rows import packed_bytes_of, rows_of_text
 
 EXAMPLE = './day label holder 5501 "Kalkwerk Nord" --why "a letter" --office out/office'
 LISTED = tables.COLUMNS["label"]
@@ -49,6 +50,7 @@ def add_words(parser: argparse.ArgumentParser) -> None:
     ways.add_argument("--file", metavar="FILE", help="the names of a file")
     ways.add_argument("--by-hand", action="store_true", help="names that were changed in labels.csv by hand count")
     parser.add_argument("--mapping", metavar="FILE", help="the columns and words of a table of others")
+    add_named(parser)
     words.add_office(parser)
     words.add_who(parser)
     parser.add_argument("--why", metavar="WORDS", help="the reason, which is kept: a change needs it")
@@ -102,7 +104,8 @@ def cells_of(said: argparse.Namespace, label: Label) -> list[showing.Cell]:
 def asked_of(said: argparse.Namespace) -> Iterator[Label]:
     """The names that the words ask for, or those of the file."""
     if said.file is not None:
-        yield from names_in(said.file, said.mapping)
+        (own,) = given([said.file], said.called)
+        yield from names_in(own, said.mapping)
     elif said.named:
         kind, number, *name = said.named
         label = Label(kind, number, labels.tidy(" ".join(name)))
@@ -123,12 +126,12 @@ def wrong_part(label: Label, may_lack: bool) -> tuple[str, str]:
     return label.name, labels.wrong_name(label.name)
 
 
-def names_in(path: str, mapping: str | None) -> Iterator[Label]:
+def names_in(own: Given, mapping: str | None) -> Iterator[Label]:
     """The names of a file: rows as labels.csv has them, or a table."""
-    content = packed_bytes_of(path)
+    path, content = own.told, packed_bytes_of(own.path)
     start = content[: len(max(KINDS, key=len)) + 4].decode("utf-8-sig", "replace")
     if mapping is None and start.lstrip().startswith(tuple(f"{kind}," for kind in KINDS)):
-        source = rows_of(path)
+        source = rows_of_text(path, text_handed_in(own, content).decode("utf-8-sig", "surrogateescape"))
         for place, label in enumerate(labels.rows_in(source)):
             tidy = label._replace(name=labels.tidy(label.name))
             found, expected = wrong_part(tidy, may_lack=True)
@@ -138,7 +141,7 @@ def names_in(path: str, mapping: str | None) -> Iterator[Label]:
         return
     known = mappings.read(mapping, COLUMNS) if mapping is not None else Mapping()
     table = Table(sheets.read_content(path, content), COLUMNS, None, known)
-    made = [*names_of_table(table)]
+    made = [*importing.found_in(names_of_table(table))]
     wrong = [own for own in made if isinstance(own, FileFault)]
     if wrong:
         raise TableFault(path, wrong, "no name was changed")

@@ -7,6 +7,7 @@ import time
 from pathlib import Path
 from typing import Iterator
 
+from registry_tools import opening
 from registry_tools.errors import of_file
 from registry_tools.office import journal
 from registry_tools.office.layout import LOCK
@@ -20,14 +21,14 @@ TIMES, PAUSE = 10, 0.02
 def holder_of(path: Path) -> str:
     """Who holds the lock, as it is written in it."""
     with contextlib.suppress(OSError):
-        return path.read_text(encoding="utf-8", errors="replace").strip()
+        return opening.read(path).decode("utf-8", "replace").strip()
     return ""
 
 
 def is_held(path: Path) -> bool:
     """Whether a command holds the lock now."""
     try:
-        file = os.open(path, os.O_RDONLY)
+        file = opening.open_file(path, os.O_RDONLY)
     except OSError:
         return False
     try:
@@ -62,8 +63,9 @@ def write_holder(file: int, path: Path, holder: str) -> None:
 def held(folder: Path, command: str, who: str) -> Iterator[None]:
     """Holds the lock of a folder during the block. If another command holds it, says which, and ends this one."""
     path = folder / NAME
+    opening.guard(folder)
     with writing(path):
-        file = os.open(path, os.O_RDWR | os.O_CREAT, 0o666)
+        file = opening.open_to_change(path, os.O_RDWR | os.O_CREAT)
     try:
         if not take(file):
             raise of_file(folder, f"another command holds its lock: {holder_of(path)}")

@@ -29,6 +29,7 @@ from registry_tools.office.folder import Office
 from registry_tools.office.handed import CHANGES, DO, WORK
 from registry_tools.office.journal import CHANGING, FILES, Event
 from registry_tools.office.merged import MERGED, written
+from registry_tools.office.program import named_program
 from registry_tools.office.waits import waits_text
 from registry_tools.texts.changes import is_same
 from registry_tools.texts.day_text import DayText, day_of
@@ -160,7 +161,7 @@ class Mending:
             return
         if not self.event.engine.startswith(SECOND):
             try:
-                yield "settled by the program", settling.by_engine(self.office.settings.program, self.content[DAY])
+                yield "settled by the program", settling.by_engine(named_program(self.office), self.content[DAY])
             except FileFault as fault:
                 self.reasons.append(str(fault))
         yield "settled by the second answer", settling.by_rules(day)

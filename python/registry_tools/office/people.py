@@ -14,10 +14,11 @@ DESK:LOGIN.
 import configparser
 import os
 import pwd
+from collections.abc import Collection
 from dataclasses import dataclass, field
 from pathlib import Path
 
-from registry_tools.errors import FileFault, WordsFault, must_be_known, shown
+from registry_tools.errors import FileFault, must_be_known, RightsFault, shown, WordsFault
 from registry_tools.office.files import sum_of
 from registry_tools.office.layout import SETTINGS
 
@@ -30,6 +31,8 @@ RIGHT_OF = {
     "hand-in": HAND_IN, "change": CHANGE, "label": CHANGE, "init": CHANGE, "close": CLOSE,
     "undo": CLOSE, "correct": CLOSE, "mend": CLOSE, "release": RELEASE,
 }  # fmt: skip
+# Who files or undoes a day passes on what is left there.
+PASSES = "close"
 # The commands that may be asked to wait for another login.
 MAY_WAIT = ("hand-in", "change", "close", "undo", "release", "correct")
 # Between the login of a desk and the login for which it speaks: no login has it.
@@ -70,9 +73,28 @@ class People:
         person = self.named.get(person_of(login))
         return not self.named or (person is not None and person.may(command))
 
-    def others_for(self, command: str, login: str) -> list[str]:
+    def may_speak(self, login: str) -> bool:
+        """Whether a login of the system may speak for others."""
+        person = self.named.get(login)
+        return person is not None and PROXY in person.rights
+
+    def may_have(self, login: str, command: str) -> bool:
+        """Whether something that came by this command counts: if who did it may give it, and who passed it on may file
+        days; or if they may speak for others, who may."""
+        *passed, person = login.split(SPEAKS_FOR)
+        asked = [(person, command), *((own, PASSES) for own in passed)]
+        return all(self.may(own, each) or self.may_speak(own) for own, each in asked)
+
+    def hands_of(self, login: str) -> set[str]:
+        """Whose hands something has come through: who did it, and who passed it on and may not speak for others."""
+        *passed, person = login.split(SPEAKS_FOR)
+        return {person, *(own for own in passed if not self.may_speak(own))}
+
+    def others_for(self, commands: Collection[str], login: str) -> list[str]:
         """Who may approve what this login asks for; nothing, if office.ini names nobody."""
-        return [str(own) for own in self.named.values() if own.may(command) and own.login != person_of(login)]
+        hands = self.hands_of(login)
+        others = (own for own in self.named.values() if own.login not in hands)
+        return [str(own) for own in others if all(map(own.may, commands))]
 
     def without_second(self) -> list[str]:
         """The commands that wait for another login, although office.ini names fewer than two people who may give
@@ -97,6 +119,12 @@ def owner_of(login: str) -> str:
     return login.partition(SPEAKS_FOR)[0]
 
 
+def passed_on(login: str, by: str) -> str:
+    """A login as the one says it that puts what it did elsewhere."""
+    own = owner_of(by)
+    return login if not login or not by or owner_of(login) == own else f"{own}{SPEAKS_FOR}{login}"
+
+
 def login_of(uid: int) -> str:
     """The login of a user of the system, or the number of one without a login."""
     try:
@@ -115,8 +143,7 @@ def login_for(people: People, whom: str | None) -> str:
     own = system_login()
     if whom is None:
         return own
-    person = people.named.get(own)
-    if person is None or PROXY not in person.rights:
+    if not people.may_speak(own):
         raise WordsFault(f"--for {whom}: {own} may not speak for others: {SETTINGS} gives it no right {PROXY}")
     if not whom.strip() or SPEAKS_FOR in whom or not whom.isprintable():
         raise WordsFault(f"--for {shown(whom)}: that is no login")
@@ -129,11 +156,12 @@ def must_be_allowed(people: People, login: str, command: str) -> None:
         return
     person = people.named.get(person_of(login))
     if person is None:
-        raise WordsFault(f"{person_of(login)} is no login that {SETTINGS} names under [{SECTION}]: nothing was done")
-    right, others = RIGHT_OF[command], people.others_for(command, login)
+        why = f"{person_of(login)} is no login that {SETTINGS} names under [{SECTION}]"
+        raise RightsFault(why, ": nothing was done")
+    right, others = RIGHT_OF[command], people.others_for((command,), login)
     may = ", ".join(own for own in RIGHTS if own in person.rights)
     who = f"{' or '.join(others)} may" if others else "nobody may"
-    raise WordsFault(f"{person} may {may}, and not {right}: {SETTINGS} says so; {who}")
+    raise RightsFault(f"{person} may {may}, and not {right}: {SETTINGS} says so; {who}")
 
 
 def read(path: Path, text: str) -> People:

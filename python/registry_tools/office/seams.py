@@ -5,6 +5,7 @@ from registry_tools.office.audited import Audit, compare_texts
 from registry_tools.office.composing import NextDay
 from registry_tools.office.folder import Office
 from registry_tools.office.journal import Event
+from registry_tools.office.program import named_program
 from registry_tools.texts.day_text import DayText, read_day
 from registry_tools.texts.follows import differences
 from registry_tools.texts.report import Report, read_report
@@ -34,7 +35,7 @@ def look_at_day(audit: Audit, event: Event, before: Pair | None, by_program: boo
     text = bytes_of(report.path)
     if by_program:
         try:
-            settled = settling.by_engine(office.settings.program, bytes_of(day.path), day.path)
+            settled = settling.by_engine(named_program(office), bytes_of(day.path), day.path)
             compare_texts(audit, report.path, text, settled, "the program", mend)
         except FileFault as fault:
             # (the pair was read: the next day is looked at behind it)

@@ -4,7 +4,7 @@ was, for the journal: as four words, such as `program 1.0 2cc76628abcd proved`.
   program, library, second   what settled the day
   its version                of the program; - if nothing tells it
   the commit of its sources  with a + behind it if they had changes; - if nothing tells it
-  proved, unproved           whether a note of its build says that it was proved
+  proved, unproved           whether its bytes were proved, by the note of its build
 """
 import os
 import re
@@ -13,7 +13,7 @@ import subprocess
 from pathlib import Path
 from typing import NamedTuple
 
-from registry_tools import installed
+from registry_tools import installed, proof
 from registry_tools.engine import NotSettled, find_library, tell_once
 from registry_tools.errors import WordsFault, of_file
 from registry_tools.progress import progress
@@ -73,7 +73,8 @@ def engine_of(named: str) -> Engine:
     program = named or installed.program() or ""
     if not program and find_library() is not None:
         lies = Path(os.path.realpath(os.environ["REGISTRY_LIBRARY"]))
-        return engine_by(LIBRARY, text_in(lies.with_name("registry.source")))
+        note = lies.with_name("registry.source")
+        return engine_by(LIBRARY, text_in(note), proof.build_of(lies, note).is_proved)
     command = program or str(RUN)
     try:
         said = subprocess.run([command, "--version"], capture_output=True, timeout=MOST_SECONDS, check=False).stdout
@@ -81,15 +82,18 @@ def engine_of(named: str) -> Engine:
         return Engine(PROGRAM)
     path = shutil.which(command) or command
     is_script = os.path.exists(path) and RUN.exists() and RUN.samefile(path)
-    note = "" if is_script else text_in(installed.note_of(path))
-    return engine_by(PROGRAM, f"{said.decode('utf-8', 'replace')}\n{note}")
+    told = said.decode("utf-8", "replace")
+    if is_script:
+        # (it compares the program that it starts with the note of its build)
+        return engine_by(PROGRAM, told, proof.says_proved(told))
+    note = installed.note_of(path)
+    return engine_by(PROGRAM, f"{told}\n{text_in(note)}", proof.build_of(path, note).is_proved)
 
 
-def engine_by(what: str, told: str) -> Engine:
-    """An engine by what is told of it: its version, the commit of its sources, and whether it was proved."""
+def engine_by(what: str, told: str, is_proved: bool) -> Engine:
+    """An engine by what is told of it: its version and the commit of its sources; and whether it was proved."""
     version = re.search(r"^registry ([0-9]\S*)$", told, re.MULTILINE)
     commit = re.search(r"^source: commit ([0-9a-f]+)(, with changes)?$", told, re.MULTILINE)
-    is_proved = re.search("^proved and built with ", told, re.MULTILINE) and "not proved" not in told.lower()
     sources = commit[1] + ("+" if commit[2] else "") if commit else UNKNOWN
     return Engine(what, version[1] if version else UNKNOWN, sources, PROVED if is_proved else UNPROVED)
 

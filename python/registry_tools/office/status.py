@@ -151,7 +151,7 @@ def second_lines(office: Office, handed_in: HandedIn) -> Iterator[tuple[str, str
     """What waits for another login, what approves nothing, and what nobody could approve."""
     for line in awaited.told(office, handed_in):
         yield SECOND, line
-    for fault in approvals.all_approvals(office).faults:
+    for fault in (*handed_in.unsaid, *approvals.all_approvals(office).faults):
         yield SECOND, f"{LOOK}: {fault}"
     for command in office.people.without_second():
         yield SECOND, f"{LOOK}: {command} waits for a second one, and office.ini names fewer than two who may give it"

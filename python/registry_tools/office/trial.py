@@ -8,7 +8,6 @@ another outcome than at the last look is marked with a *.
 exit status: 0 if everything would be done or wait, 1 if something would be refused, or the library answers otherwise.
 """
 import argparse
-import contextlib
 import itertools
 from dataclasses import dataclass
 from pathlib import Path
@@ -21,6 +20,7 @@ from registry_tools.notes import LOOK, worth_telling
 from registry_tools.office import composing, files, folder, handed, labels, words
 from registry_tools.office.composing import NextDay
 from registry_tools.office.labels import Labels
+from registry_tools.opening import LinkFault
 from registry_tools.second import rules
 from registry_tools.texts import checks, in_words
 from registry_tools.texts.day_text import DayText
@@ -143,10 +143,14 @@ def mark_new(path: Path, looked: list[Looked]) -> None:
 
 def mark_and_keep(path: Path, looked: list[Looked]) -> None:
     """Marks what is new, and keeps this look in place of the last one. Nothing depends on it, so a fault is passed
-    over."""
-    with contextlib.suppress(FileFault):
+    over, but not that somebody put a link there."""
+    try:
         mark_new(path, looked)
         files.replace(path, "".join(f"{tried.line()}\n" for tried in looked).encode("utf-8", "surrogateescape"))
+    except LinkFault:
+        raise
+    except FileFault:
+        pass
 
 
 def run(said: argparse.Namespace) -> int:

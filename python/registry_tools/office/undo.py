@@ -93,7 +93,7 @@ def put_again(
     """Puts into an empty next/ behind this line what the last day was made of, for this day or later, what was handed
     in since, and what waits then. Answers all that is there, and the place behind what the day was made of."""
     since = office.handed_in()
-    there = handed_files.again(folder_of_next, line, *filed_parts(office, last), date)
+    there = handed_files.again(folder_of_next, line, *filed_parts(office, last), date, office.login)
     end = there.end
     handed_files.put_left(there, since, since.parts)
     write_waits_before(office, there)

@@ -3,7 +3,7 @@ import argparse
 import contextlib
 from collections.abc import Iterator
 
-from registry_tools.errors import WordsFault
+from registry_tools.errors import LateFault, WordsFault
 from registry_tools.office import folder, lock, people, prepared
 from registry_tools.office.folder import WHERE, Office, user_name
 
@@ -63,5 +63,5 @@ def changing(said: argparse.Namespace, command: str) -> Iterator[Office]:
         people.must_be_allowed(office.people, office.login, command)
         if said.seen is not None and said.seen != folder.state_of(office):
             since = "; ".join(folder.done_since(office, said.seen)) or "another first text stands there"
-            raise WordsFault(f"{CAME_LATE}: {since}")
+            raise LateFault(f"{CAME_LATE}: {since}")
         yield office

@@ -14,7 +14,7 @@ import stat
 from collections.abc import Iterator
 from pathlib import Path
 
-from registry_tools import steps
+from registry_tools import opening, steps
 from registry_tools.errors import FileFault, of_file
 from registry_tools.office import daybase, files, index, past
 from registry_tools.office.daybase import Row
@@ -49,6 +49,8 @@ def made_aside(path: str) -> Iterator[Path]:
     beside = real.parent / name_beside(real.name)
     remove_left(real.parent)
     try:
+        # (a new file: whoever may write there may have put a link under its name)
+        os.close(opening.create(beside))
         yield beside
         if real.exists():
             os.chmod(beside, stat.S_IMODE(real.stat().st_mode))

@@ -23,16 +23,17 @@ The file of --mapping tells how others write it, a line each:
 Nothing is written if a cell is wrong: then the first 100 are told, each with what was found and what is expected.
 """
 import argparse
+import itertools
 import re
 import sys
 from dataclasses import dataclass
-from typing import Callable, Iterator
+from typing import Callable, Iterator, TypeVar
 
 from registry_tools.errors import FILE, FileFault, shown
 from registry_tools.options import add_to
 from registry_tools.output import write_answer
 from registry_tools.second import faults
-from registry_tools.sheets import columns, mapping as mappings, sheets
+from registry_tools.sheets import columns, limits, mapping as mappings, sheets
 from registry_tools.sheets.mapping import Mapping
 from registry_tools.sheets.sheet import Sheet
 from registry_tools.sheets.table import Table
@@ -45,6 +46,7 @@ EXAMPLE = (
 )
 MOST_SHOWN, MOST_TOLD = 5, 100
 OTHER_FORM, OTHER_AMOUNTS = "--dates tells another form", "amounts of --mapping tells the separators"
+Found = TypeVar("Found")
 # How somebody writes a number with separators.
 PARTED = re.compile(rf"-?[0-9]{{1,3}}(?:[.,'{mappings.BLANKS}][0-9]{{3}})+(?:[.,][0-9]+)?", re.ASCII)
 
@@ -212,9 +214,9 @@ def imported(sheet: Sheet, are_accounts: bool | None, dates: str | None, mapping
     if are_accounts is None:
         are_accounts = columns.ACCOUNT_FIELDS[0] in headings
     table = Table(sheet, columns.ACCOUNT_COLUMNS if are_accounts else columns.INSTRUCTION_COLUMNS, dates, mapping)
-    wrong = [*table.wrong_heading()]
+    wrong = [*itertools.islice(table.wrong_heading(), limits.MOST_WRONG)]
     # (under a heading that is wrong, nobody knows what a cell is)
-    made = [] if wrong else [*(accounts_of if are_accounts else instructions_of)(table)]
+    made = [] if wrong else [*found_in((accounts_of if are_accounts else instructions_of)(table))]
     wrong += [own for own in made if isinstance(own, FileFault)]
     right = [] if wrong else [own for own in made if isinstance(own, Made)]
     if are_accounts:
@@ -223,10 +225,21 @@ def imported(sheet: Sheet, are_accounts: bool | None, dates: str | None, mapping
     return Imported(are_accounts, right, wrong)
 
 
+def found_in(made: Iterator[Found | FileFault]) -> Iterator[Found | FileFault]:
+    """What was found in a table, up to so many faults: nobody reads more, and each takes memory."""
+    wrong = 0
+    for own in made:
+        yield own
+        wrong += isinstance(own, FileFault)
+        if wrong == limits.MOST_WRONG:
+            return
+
+
 def told(wrong: list[FileFault], end: str) -> list[str]:
     """What is wrong with the cells of a table, in lines, as far as somebody reads them; and how many there are."""
     more = [f"and {len(wrong) - MOST_TOLD} more"] if len(wrong) > MOST_TOLD else []
-    return [*map(str, wrong[:MOST_TOLD]), *more, f"cells that are wrong: {len(wrong)}; {end}"]
+    count = f"{len(wrong)}{' or more' if len(wrong) >= limits.MOST_WRONG else ''}"
+    return [*map(str, wrong[:MOST_TOLD]), *more, f"cells that are wrong: {count}; {end}"]
 
 
 def run(said: argparse.Namespace) -> int:

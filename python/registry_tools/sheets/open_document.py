@@ -1,17 +1,16 @@
 """Reads the first sheet of an OpenDocument workbook (.ods): formulas by their stored values, dates as 2026-12-14, and
 other numbers in plain digits, if they are whole."""
-import io
-import zipfile
-from collections.abc import Iterator
-from xml.etree import ElementTree
+from registry_tools.sheets import limits
+from registry_tools.sheets.limits import Grid
+from registry_tools.sheets.parts import Elements, Enough, Parts, count_in
+from registry_tools.sheets.sheet import Sheet, Stored, whole
 
-from registry_tools.sheets.sheet import MOST_COLUMNS, MOST_ROWS, Sheet, Stored, whole
-
-SPACE = "urn:oasis:names:tc:opendocument:xmlns:{name}:1.0"
-TABLE, OFFICE, TEXT = (f"{{{SPACE.format(name=name)}}}" for name in ("table", "office", "text"))
+SPACE = "urn:oasis:names:tc:opendocument:xmlns:{name}:1.0}}"
+TABLE, OFFICE, TEXT = (SPACE.format(name=name) for name in ("table", "office", "text"))
 # LibreOffice says by this what is an error; the value is empty then.
-ERROR = "{urn:org:documentfoundation:names:experimental:calc:xmlns:calcext:1.0}value-type"
+ERROR = "urn:org:documentfoundation:names:experimental:calc:xmlns:calcext:1.0}value-type"
 NUMBERS = ("float", "currency", "percentage")
+SHEET, ROW, PARAGRAPH = f"{TABLE}table", f"{TABLE}table-row", f"{TEXT}p"
 CELLS = (f"{TABLE}table-cell", f"{TABLE}covered-table-cell")
 # What stands in the text of a cell and is no letter.
 BLANKS = {f"{TEXT}tab": "\t", f"{TEXT}line-break": "\n", f"{TEXT}s": " "}
@@ -19,79 +18,116 @@ BLANKS = {f"{TEXT}tab": "\t", f"{TEXT}line-break": "\n", f"{TEXT}s": " "}
 
 def open_document_sheet(path: str, content: bytes) -> Sheet:
     """The first sheet of a workbook. What is no workbook raises what unpacking and reading it raises."""
-    with zipfile.ZipFile(io.BytesIO(content)) as archive:
-        root = ElementTree.fromstring(archive.read("content.xml"))
-    table = next(root.iter(f"{TABLE}table"), None)
-    if table is None:
+    rows = Rows(path)
+    Parts(path, content).read("content.xml", rows)
+    if rows.name is None:
         raise ValueError("no sheet")
-    rows: list[list[str]] = []
-    empty = 0
-    for row in table.iter(f"{TABLE}table-row"):
-        cells, times = cells_of(row), repeated(row, "rows")
-        # (a sheet ends with a million empty rows, which are one)
-        if not cells:
-            empty += times
-            continue
-        if len(rows) + empty + times > MOST_ROWS:
-            raise ValueError(f"more than {MOST_ROWS} rows")
-        rows += [[] for _ in range(empty)]
-        rows += [[*cells] for _ in range(times)]
-        empty = 0
-    return Sheet(path, table.get(f"{TABLE}name", ""), rows)
+    return Sheet(path, rows.name, rows.grid.rows)
 
 
-def repeated(element: ElementTree.Element, what: str) -> int:
-    """How often a row or a cell stands there."""
-    return int(element.get(f"{TABLE}number-{what}-repeated", "1"))
+class Rows(Elements):
+    """The rows of the first sheet, each up to its last cell that has something."""
 
+    def __init__(self, path: str) -> None:
+        super().__init__()
+        self.grid = Grid(path)
+        self.name: str | None = None
+        # How many empty rows stand before this one, and how many empty cells before the next cell: a sheet ends with a
+        # million empty rows, which are one.
+        self.empty_rows = self.empty_cells = self.times = 0
+        self.cells: list[str] = []
+        # The attributes of the cell that is open, at which depth it is, and its letters and paragraphs so far.
+        self.of: dict[str, str] = {}
+        self.depth = self.letters = 0
+        self.paragraphs: list[list[str]] = []
 
-def cells_of(row: ElementTree.Element) -> list[str]:
-    """The cells of a row, up to the last one that has something."""
-    cells: list[str] = []
-    empty = 0
-    for cell in row:
-        if cell.tag not in CELLS:
-            continue
-        value, times = cell_value(cell), repeated(cell, "columns")
+    def begin(self, name: str, of: dict[str, str]) -> None:
+        """An element begins. Raises FileFault at a limit."""
+        if self.depth:
+            self.begin_in_cell(name, of)
+        elif name == SHEET and self.name is None:
+            self.name = of.get(f"{TABLE}name", "")
+        elif self.name is None:
+            return
+        elif name == ROW:
+            self.cells, self.empty_cells, self.times = [], 0, count_in(of.get(f"{TABLE}number-rows-repeated"), 1)
+        elif name in CELLS and self.open[-1] == ROW:
+            self.of, self.depth, self.letters, self.paragraphs = of, len(self.open) + 1, 0, []
+
+    def begin_in_cell(self, name: str, of: dict[str, str]) -> None:
+        """An element begins in a cell. (Notes that somebody wrote to it are no paragraphs of its own.)"""
+        if name == PARAGRAPH and len(self.open) == self.depth:
+            self.paragraphs.append([])
+        elif name in BLANKS and self.is_in_paragraph():
+            times = count_in(of.get(f"{TEXT}c"), 1)
+            self.must_have_room(times)
+            self.paragraphs[-1].append(BLANKS[name] * times)
+
+    def must_have_room(self, letters: int) -> None:
+        """Counts letters of the cell that is open. Raises FileFault if they are too many."""
+        self.letters += letters
+        if self.letters > limits.MOST_LETTERS:
+            raise limits.too_much(self.grid.path, "letters of a cell", limits.MOST_LETTERS)
+
+    def is_in_paragraph(self) -> bool:
+        """Whether a paragraph of the cell is open."""
+        return self.open[self.depth : self.depth + 1] == [PARAGRAPH]
+
+    def text(self, letters: str) -> None:
+        """Letters stand in the element that is open."""
+        if self.depth and self.is_in_paragraph():
+            self.must_have_room(len(letters))
+            self.paragraphs[-1].append(letters)
+
+    def end(self, name: str) -> None:
+        """An element ends. Raises FileFault at a limit, and Enough behind the first sheet."""
+        if self.depth and len(self.open) + 1 == self.depth:
+            self.depth = 0
+            times = count_in(self.of.get(f"{TABLE}number-columns-repeated"), 1)
+            self.end_cell(cell_value(self.of, self.paragraphs), times)
+        elif self.depth or self.name is None:
+            return
+        elif name == ROW:
+            self.end_row()
+        elif name == SHEET:
+            raise Enough
+
+    def end_cell(self, value: str, times: int) -> None:
+        """A cell stands there so often."""
         if value == "":
-            empty += times
-            continue
-        if len(cells) + empty + times > MOST_COLUMNS:
-            raise ValueError(f"more than {MOST_COLUMNS} columns")
-        cells += [""] * empty + [value] * times
-        empty = 0
-    return cells
+            self.empty_cells += times
+            return
+        self.letters = 0
+        self.must_have_room(len(value))
+        if len(self.cells) + self.empty_cells + times > limits.MOST_COLUMNS:
+            raise limits.too_much(self.grid.path, "columns", limits.MOST_COLUMNS)
+        self.cells += [""] * self.empty_cells + [value] * times
+        self.empty_cells = 0
+
+    def end_row(self) -> None:
+        """A row has ended."""
+        if not self.cells:
+            self.empty_rows += self.times
+            return
+        self.grid.add((), self.empty_rows)
+        self.grid.add(self.cells, self.times)
+        self.empty_rows = 0
 
 
-def cell_value(cell: ElementTree.Element) -> str:
-    """What a cell holds."""
-    kind = cell.get(f"{OFFICE}value-type", "")
-    if cell.get(ERROR) == "error":
-        return cell_text_of(cell)
+def cell_value(of: dict[str, str], paragraphs: list[list[str]]) -> str:
+    """What a cell holds, by its attributes and its paragraphs."""
+    kind, text = of.get(f"{OFFICE}value-type", ""), "\n".join(map("".join, paragraphs))
+    if of.get(ERROR) == "error":
+        return text
     if kind in NUMBERS:
-        return Stored(whole(cell.get(f"{OFFICE}value", "")))
+        return Stored(whole(of.get(f"{OFFICE}value", "")))
     if kind == "date":
         # (one with a time keeps it, and is no date of a day text then)
-        return cell.get(f"{OFFICE}date-value", "").replace("T", " ").removesuffix(" 00:00:00")
+        return of.get(f"{OFFICE}date-value", "").replace("T", " ").removesuffix(" 00:00:00")
     if kind == "time":
-        return cell.get(f"{OFFICE}time-value", "")
+        return of.get(f"{OFFICE}time-value", "")
     if kind == "boolean":
-        return cell.get(f"{OFFICE}boolean-value", "").upper()
-    said = cell.get(f"{OFFICE}string-value") or cell_text_of(cell)
+        return of.get(f"{OFFICE}boolean-value", "").upper()
+    said = of.get(f"{OFFICE}string-value") or text
     # (nobody saved what the formula gives: as text it is told as what it is)
-    return said or (cell.get(f"{TABLE}formula", "").partition(":")[2] if not kind else "")
-
-
-def cell_text_of(cell: ElementTree.Element) -> str:
-    """The text of a cell, without notes that somebody wrote to it."""
-    return "\n".join("".join(letters_in(part)) for part in cell if part.tag == f"{TEXT}p")
-
-
-def letters_in(element: ElementTree.Element) -> Iterator[str]:
-    """The letters of a paragraph, in parts."""
-    if element.tag in BLANKS:
-        yield BLANKS[element.tag] * int(element.get(f"{TEXT}c", "1"))
-    yield element.text or ""
-    for part in element:
-        yield from letters_in(part)
-        yield part.tail or ""
+    return said or (of.get(f"{TABLE}formula", "").partition(":")[2] if not kind else "")

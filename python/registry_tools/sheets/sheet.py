@@ -1,11 +1,14 @@
 """A table as it is read of a file: its rows, and where its cells stand."""
 import re
+from collections.abc import Sequence
 from dataclasses import dataclass
 
-from registry_tools.errors import FileFault
+from registry_tools.errors import FileFault, visible
 
-# A sheet has no more rows and columns, and a cell of it no more letters.
-MOST_ROWS, MOST_COLUMNS, MOST_LETTERS = 1_048_576, 16_384, 32_767
+# So much of the name of a sheet is told, which a spreadsheet lets have 31 letters.
+LONGEST_NAME = 80
+# A longer number is none that a spreadsheet stores.
+LONGEST_NUMBER = 400
 
 
 class Stored(str):
@@ -18,7 +21,7 @@ class Sheet:
 
     path: str
     name: str
-    rows: list[list[str]]
+    rows: Sequence[Sequence[str]]
 
     def fault(self, row: int, column: int, field: str, found: str, expected: str) -> FileFault:
         """What is wrong with a cell. Rows and columns count from 0."""
@@ -26,7 +29,8 @@ class Sheet:
 
     def fault_at(self, place: str, field: str, found: str, expected: str) -> FileFault:
         """The fault of a place in the sheet."""
-        sheet = f"sheet {self.name}, " if self.name else ""
+        name = "".join(map(visible, self.name[:LONGEST_NAME]))
+        sheet = f"sheet {name}, " if name else ""
         return FileFault(f"{self.path}, {sheet}{place}", 0, field, found, expected)
 
 
@@ -47,7 +51,7 @@ def name_of_cell(row: int, column: int) -> str:
 
 def whole(value: str) -> str:
     """A number as a spreadsheet stores it, in plain digits if it is whole."""
-    if re.fullmatch(r"-?[0-9]+", value):
+    if len(value) > LONGEST_NUMBER or re.fullmatch(r"-?[0-9]+", value, re.ASCII):
         return value
     number = float(value)
     return str(int(number)) if number.is_integer() and abs(number) < 2**53 else value

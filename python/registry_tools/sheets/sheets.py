@@ -10,10 +10,11 @@ import io
 import sys
 import zipfile
 import zlib
-from xml.etree import ElementTree
+from xml.parsers import expat
 
 from registry_tools.errors import FileFault, of_file, shown
-from registry_tools.sheets import open_document, workbook
+from registry_tools.sheets import limits, open_document, workbook
+from registry_tools.sheets.limits import Grid
 from registry_tools.sheets.sheet import Sheet
 from registry_tools.texts.rows import packed_bytes_of
 
@@ -27,9 +28,10 @@ SAVE_AS = "a table that is saved as .xlsx, as .ods, or as CSV in UTF-8"
 SEPARATORS = ",;\t"
 # What reading a workbook raises that is damaged, locked, or packed or spelled in a way that nobody knows.
 DAMAGED = (
-    zipfile.BadZipFile, zlib.error, EOFError, RuntimeError, ElementTree.ParseError, LookupError, ValueError,
-    OverflowError,
+    zipfile.BadZipFile, zlib.error, EOFError, RuntimeError, expat.ExpatError, LookupError, ValueError, OverflowError,
 )  # fmt: skip
+# In so many letters the first line of a csv tells what stands between its cells.
+FIRST_LETTERS = 1 << 16
 
 
 def is_workbook(content: bytes) -> bool:
@@ -50,7 +52,8 @@ def read(path: str) -> Sheet:
 
 
 def read_content(path: str, content: bytes) -> Sheet:
-    """The table of a file with this content."""
+    """The table of a file with this content. Raises FileFault, also at the first limit of tables."""
+    limits.must_have_room(path, content)
     if content.startswith(OLD):
         raise FileFault(path, 0, "", OLD_WORKBOOK, SAVE_AS)
     return read_workbook(path, content) if content.startswith(PACKED) else read_csv(path, content)
@@ -59,21 +62,35 @@ def read_content(path: str, content: bytes) -> Sheet:
 def read_csv(path: str, content: bytes) -> Sheet:
     """The sheet of a text with commas, semicolons or tabs. Raises FileFault."""
     encoding = "utf-16" if content.startswith((codecs.BOM_UTF16_LE, codecs.BOM_UTF16_BE)) else "utf-8-sig"
+    # (a cell may have all 4,096 surrenders of an account)
+    csv.field_size_limit(sys.maxsize)
+    grid = Grid(path)
     try:
-        text = content.decode(encoding)
+        text = io.TextIOWrapper(io.BytesIO(content), encoding, newline="")
+        separator = max(SEPARATORS, key=text.read(FIRST_LETTERS).partition("\n")[0].count)
+        text.seek(0)
+        if content.count(separator.encode()) > limits.MOST_SEPARATORS:
+            # (all cells of a row are made before it can be looked at)
+            raise limits.too_much(path, "cells", limits.MOST_CELLS)
+        for cells in csv.reader(text, delimiter=separator, strict=True):
+            grid.add(cells)
+    except UnicodeDecodeError as error:
+        raise not_decoded(path, content, encoding) or error from None
+    except csv.Error as error:
+        raise of_file(path, f"this is no table: {error}") from None
+    return Sheet(path, "", grid.rows)
+
+
+def not_decoded(path: str, content: bytes, encoding: str) -> FileFault | None:
+    """The first byte of a file that stands for nothing in its encoding."""
+    try:
+        content.decode(encoding)
     except UnicodeDecodeError as error:
         line, there = content.count(b"\n", 0, error.start) + 1, content[error.start]
         as_windows = bytes([there]).decode("cp1252", "replace")
         found = f"the byte {there:02X}, which is {shown(as_windows)} in Windows-1252 and nothing in UTF-8"
-        raise FileFault(path, line, "", found, f"{SAVE_AS}, or in UTF-16 with a byte order mark") from None
-    first = text.split("\n", 1)[0]
-    separator = max(SEPARATORS, key=first.count)
-    # (a cell may have all 4,096 surrenders of an account)
-    csv.field_size_limit(sys.maxsize)
-    try:
-        return Sheet(path, "", [*csv.reader(io.StringIO(text, newline=""), delimiter=separator, strict=True)])
-    except csv.Error as error:
-        raise of_file(path, f"this is no table: {error}") from None
+        return FileFault(path, line, "", found, f"{SAVE_AS}, or in UTF-16 with a byte order mark")
+    return None
 
 
 def read_workbook(path: str, content: bytes) -> Sheet:

@@ -8,7 +8,8 @@ from xml.sax.saxutils import escape
 
 from registry_tools.errors import FileFault
 from registry_tools.output import NewFile
-from registry_tools.sheets.sheet import MOST_LETTERS, name_of_cell
+from registry_tools.sheets.limits import MOST_LETTERS
+from registry_tools.sheets.sheet import name_of_cell
 
 SHEET_TYPE = (
     '<Override PartName="/xl/worksheets/sheet{number}.xml" '

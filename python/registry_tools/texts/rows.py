@@ -5,6 +5,7 @@ import errno
 import functools
 import gzip
 import io
+import os
 import re
 import sys
 import zlib
@@ -12,10 +13,14 @@ from collections.abc import Iterator, Sequence
 from dataclasses import dataclass, field
 from pathlib import Path
 
-from registry_tools import streams
+from registry_tools import opening, streams
 from registry_tools.errors import FileFault, of_file
 from registry_tools.progress import progress
 
+# No text is longer, as the program takes none that is.
+MOST_TEXT = 1 << 30
+# Packed bytes are unpacked so much at a time.
+PIECE = 1 << 20
 # How the files begin that spreadsheets save by themselves, which are no texts.
 WORKBOOKS = (b"PK\x03\x04", b"\xd0\xcf\x11\xe0")
 NEWLINE = re.compile("\r\n|\r")
@@ -61,30 +66,46 @@ def read_once(path: str) -> bytes:
         if not streams.is_open(sys.stdin):
             raise OSError(errno.EBADF, "it is closed")
         return sys.stdin.buffer.read()
-    return Path(path).read_bytes()
+    return opening.read(path)
 
 
 def packed_bytes_of(path: str | Path) -> bytes:
     """The content of a file, or of standard input, whose name is `-`, as it is there."""
     progress.tell(f"reading {path}")
     try:
-        return Path(path).read_bytes() if is_file(path) else read_once(str(path))
+        return opening.read(path) if is_file(path) else read_once(str(path))
     except OSError as error:
         raise of_file(path, f"it cannot be read: {error.strerror}") from None
 
 
 def bytes_of(path: str | Path) -> bytes:
     """The text that a file or standard input has."""
-    content = packed_bytes_of(path)
+    return unpacked(path, packed_bytes_of(path))
+
+
+def unpacked(path: str | Path, content: bytes, most: int = MOST_TEXT) -> bytes:
+    """The text of a file with this content, which is packed if its name says so: so many bytes at most."""
     if Path(path).suffix == ".gz":
-        try:
-            content = gzip.decompress(content)
-        except (OSError, EOFError, zlib.error) as error:
-            raise of_file(path, f"it cannot be unpacked: {error}") from None
+        content = unzipped(path, content, most)
     if content.startswith(WORKBOOKS):
         expected = "a text: let the spreadsheet save the table as CSV in UTF-8"
         raise FileFault(path, 0, "", "a workbook of a spreadsheet", expected)
     return content
+
+
+def unzipped(path: str | Path, content: bytes, most: int) -> bytes:
+    """What gzip packed: piece by piece, since some bytes may unpack to a thousand times as many."""
+    pieces, count = list[bytes](), 0
+    try:
+        with gzip.open(io.BytesIO(content)) as stream:
+            while piece := stream.read(PIECE):
+                pieces.append(piece)
+                count += len(piece)
+                if count > most:
+                    raise FileFault(path, 0, "bytes, unpacked", f"more than {most:,}", f"at most {most:,}")
+    except (OSError, EOFError, zlib.error) as error:
+        raise of_file(path, f"it cannot be unpacked: {error}") from None
+    return b"".join(pieces)
 
 
 def is_file(path: str | Path) -> bool:
@@ -96,7 +117,7 @@ def begins_with(path: str | Path, starts: tuple[str, ...]) -> bool:
     """Whether the first row of a file begins so; of one that cannot be read, nobody knows."""
     try:
         if is_file(path):
-            with open(path, "rb") as file:
+            with open(opening.open_file(path, os.O_RDONLY), "rb") as file:
                 start = file.read(FIRST_BYTES)
         else:
             start = read_once(str(path))[:FIRST_BYTES]

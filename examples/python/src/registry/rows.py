@@ -29,7 +29,7 @@ class Act(Enum):
 
 
 # What the fields behind the word of an act say, in their order. Behind those of a distribution stand its shares.
-_FIELDS: dict[Act, tuple[str, ...]] = {
+FIELDS: dict[Act, tuple[str, ...]] = {
     Act.TRANSFER: ("from_account", "to", "kind", "amount"),
     Act.RETURN: ("from_account", "to", "kind", "amount"),
     Act.SURRENDER: ("from_account", "kind", "amount"),
@@ -80,7 +80,7 @@ class Instruction:
     @classmethod
     def of(cls, fields: Sequence[str]) -> Instruction:
         proposed, proposer, approver, word, *rest = fields
-        names = _FIELDS[Act(word)]
+        names = FIELDS[Act(word)]
         said: dict[str, Any] = {
             name: value if name in _WORDS else int(value) for name, value in zip(names, rest)
         }

@@ -10,6 +10,7 @@ from typing import TYPE_CHECKING, Any, Iterable, Iterator, Sequence, Union, over
 
 from registry import native
 from registry.rows import Account, Determined, Holding, Instruction, LogRow, Refused, RefusedRow, Task, Totals
+from registry.writing import Rules
 
 if TYPE_CHECKING:
     import pandas  # type: ignore[import]
@@ -43,8 +44,17 @@ def _accounts(rows: Iterable[Sequence[str]]) -> Iterator[Account]:
         yield account
 
 
-@dataclass(frozen=True)
-class Log(Sequence[LogRow]):
+class _Text:
+    """What has the bytes of a text. It is shown in one short line, however long they are."""
+
+    text: bytes
+
+    def __repr__(self) -> str:
+        return f"<registry.{type(self).__name__} of {len(self.text)} bytes>"
+
+
+@dataclass(frozen=True, repr=False)
+class Log(_Text, Sequence[LogRow]):
     """The log of a settled day: its rows, one after another, by their place, or all of a slice."""
 
     text: bytes
@@ -99,8 +109,8 @@ def _frame(rows: Iterable[dict[str, Any]]) -> pandas.DataFrame:
     return pandas.DataFrame(list(rows))
 
 
-@dataclass(frozen=True)
-class Report:
+@dataclass(frozen=True, repr=False)
+class Report(_Text):
     """The report of a settled day. `text` has the bytes that `registry settle` writes."""
 
     text: bytes
@@ -140,8 +150,8 @@ def _totals(text: bytes) -> dict[str, Totals]:
     return {kind: Totals(kind, *map(int, numbers)) for _, kind, *numbers in rows}
 
 
-@dataclass(frozen=True)
-class Statement:
+@dataclass(frozen=True, repr=False)
+class Statement(_Text):
     """The statement of an account over a day. `text` has the bytes that `registry statement` writes."""
 
     text: bytes
@@ -163,8 +173,8 @@ class Statement:
         return Log(b"".join(line for line in self.text.splitlines(True) if line.startswith(b"log,")))
 
 
-@dataclass(frozen=True)
-class Day:
+@dataclass(frozen=True, repr=False)
+class Day(_Text):
     """A day text. Each question is a call of the library, which raises `Fault` if the bytes are no day text."""
 
     text: bytes
@@ -245,6 +255,10 @@ class Day:
             return date.fromisoformat(rows[1][1])
         except ValueError:
             return date.fromisoformat(self.rows[1][1])
+
+    def rules(self) -> Rules:
+        """What stands before the accounts."""
+        return Rules.of(self._sound_rows())
 
     def accounts(self) -> Iterator[Account]:
         """The accounts before the day, by rising number, one after another."""

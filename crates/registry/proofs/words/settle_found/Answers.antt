@@ -1,21 +1,27 @@
-use Rattle.std.proofs.Common.{Some, ap, codes}
-use Rattle.clap.specs.Matches.{found_of}
+use Rattle.std.proofs.Common.{◌∙◌, Some, ap, codes, refl, sym}
+use Rattle.clap.specs.Words.{found_of, rows_of}
 use Rattle.reg_front.specs.declared.command.Command.TheVariants.{Settle}
-use Rattle.registry.proofs.Found.{number-read, text-found}
+use Rattle.registry.proofs.Found.{settle_only, spelled, text_found}
 use Rattle.registry.proofs.words.settle_found.Goals as goal
 
-pub returns-in_err-workers-clause-found : goal.returns-in_err-workers-clause-found
-returns-in_err-workers-clause-found c word found is =
-    absurd ((c.in_err-workers.ensures.value word
-    (text-found (found_of c.args.found.now) (codes "workers") word found)).1.0 is)
+pub returns-in_err-workers-clause-each : goal.returns-in_err-workers-clause-each
+returns-in_err-workers-clause-each c command found =
+    let f = found_of c.args.found.now in
+    let asked = (settle_only (rows_of f) command found).2 in
+    absurd ((c.in_err-workers.ensures.value asked.word (text_found f (codes "workers") asked.word asked.found)).1.0
+    asked.numeral)
 
-pub returns-clause-number : goal.returns-clause-number
-returns-clause-number c =
-    let read = c.in_ok-workers in
-    number-read (found_of c.args.found.now) (codes "workers") read.workers read.ensures.none
-    (λ word found. (read.ensures.value word found).0.1)
+pub returns-clause-command : goal.returns-clause-command
+returns-clause-command c = record {
+  name = refl;
+  number = spelled (found_of c.args.found.now) (codes "workers") c.in_ok-workers.workers c.in_ok-workers.ensures.none
+      (λ word e. (c.in_ok-workers.ensures.value word e).0);
+}
 
-pub returns-clause-found : goal.returns-clause-found
-returns-clause-found c word found is =
-    ap (λ n. Some (Settle n))
-    (c.in_ok-workers.ensures.value word (text-found (found_of c.args.found.now) (codes "workers") word found)).0.1
+pub returns-clause-each : goal.returns-clause-each
+returns-clause-each c command found =
+    let f = found_of c.args.found.now in
+    let only = settle_only (rows_of f) command found in
+    let asked = only.2 in
+    let read = (c.in_ok-workers.ensures.value asked.word (text_found f (codes "workers") asked.word asked.found)).0.1 in
+    ap Some (ap Settle (read ∙ sym asked.value) ∙ sym only.1)

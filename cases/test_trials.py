@@ -1,0 +1,189 @@
+"""Tries the trials themselves: one that asserts nothing, that nobody makes, or a part without one, must not pass.
+
+Scripts of trials are written into a folder of their own, beside this folder's conftest, and pytest is run there.
+"""
+from __future__ import annotations
+
+import ast
+import re
+import subprocess
+import sys
+from pathlib import Path
+
+import pytest
+
+from harness import CASES
+
+HEAD = """\
+#!/usr/bin/env python3
+'''usage: run-planted-here
+'''
+import sys
+from collections.abc import Iterator
+from harness import LeftOut, Trial, Trials
+
+def left() -> None:
+    raise LeftOut("no memory")
+
+"""
+TAIL = """
+if __name__ == "__main__":
+    trials = Trials()
+    trials.add_all(one_trials())
+    trials.make(two_trials())
+    sys.exit(trials.end())
+"""
+RIGHT = """\
+def one_trials() -> Iterator[tuple[str, object]]:
+    print("said before")
+    yield "one", {one}
+    {more}
+"""
+TWO = """\
+def two_trials() -> Iterator[tuple[str, Trial]]:
+    yield "two", {two}
+    yield "three close", lambda: None
+"""
+
+
+def ran(name: str, text: str, *words: str) -> tuple[str, list[str]]:
+    """The last line of pytest for a script of this text, and what it says of each trial."""
+    script = CASES / name
+    script.write_text(text)
+    try:
+        run = subprocess.run(
+            [sys.executable, "-m", "pytest", "-v", "-rs", "-p", "no:cacheprovider", *words, script],
+            capture_output=True, text=True, check=False, cwd=CASES.parent,
+        )  # fmt: skip
+    finally:
+        script.unlink()
+    told = re.findall(rf"cases/{name}::(.*? (?:PASSED|FAILED|SKIPPED))", run.stdout)
+    return run.stdout, told
+
+
+@pytest.fixture
+def name(request: pytest.FixtureRequest) -> str:
+    return f"run-planted-{abs(hash(request.node.nodeid)) % 10**6}"
+
+
+def made(one: str = "None", more: str = "", two: str = "lambda: None") -> str:
+    return HEAD + RIGHT.format(one=one, more=more) + TWO.format(two=two) + TAIL
+
+
+def test_each_trial_is_told_by_its_name(name: str) -> None:
+    assert ran(name, made())[1] == ["one PASSED", "two PASSED", "three close PASSED"]
+
+
+def test_failure_has_its_place_and_what_was_written(name: str) -> None:
+    said, told = ran(name, made(one="'it is wrong'"))
+    assert told == ["one FAILED", "two PASSED", "three close PASSED"]
+    assert f"cases/{name}:13: one: it is wrong" in said and "said before" in said
+
+
+def test_part_that_raises_loses_no_other_trial(name: str) -> None:
+    said, told = ran(name, made(more="raise ValueError('fell')"))
+    assert told == ["one PASSED", "one_trials FAILED", "two PASSED", "three close PASSED"]
+    assert "ValueError: fell" in said
+
+
+def test_trial_that_raises_loses_no_other_trial(name: str) -> None:
+    assert ran(name, made(two="lambda: 1 / 0"))[1] == ["one PASSED", "two FAILED", "three close PASSED"]
+
+
+def test_what_is_left_out_is_skipped_with_its_reason(name: str) -> None:
+    said, told = ran(name, made(two="left"))
+    assert told == ["one PASSED", "two SKIPPED", "three close PASSED"]
+    assert "no memory" in said
+
+
+def test_words_choose_trials(name: str) -> None:
+    assert ran(name, made(), "-k", "close")[1] == ["three close PASSED"]
+    assert ran(name, made(), "-k", "not close and not one")[1] == ["two PASSED"]
+
+
+def test_first_failure_ends_the_run(name: str) -> None:
+    assert ran(name, made(one="'wrong'"), "-x")[1] == ["one FAILED"]
+
+
+# Planted: each must fail.
+
+
+def test_part_without_a_trial_fails(name: str) -> None:
+    empty = made().replace('    print("said before")\n    yield "one", None\n', "    yield from ()\n")
+    said, told = ran(name, empty)
+    assert "one_trials FAILED" in told and "it has no trial" in said
+
+
+def test_script_without_a_trial_fails(name: str) -> None:
+    said, told = ran(name, HEAD + "print('0 passed, 0 failed')\nsys.exit(1)\n")
+    assert told == ["* FAILED"] and "it has no trial" in said
+
+
+def test_script_that_breaks_off_fails(name: str) -> None:
+    said, told = ran(name, made(two="lambda: sys.exit(0)"))
+    assert told == ["one PASSED", "* FAILED"] and "it ended with status 0" in said
+
+
+# What is written in cases/.
+
+
+def trees() -> dict[str, ast.Module]:
+    files = [*CASES.glob("*.py"), *CASES.glob("run-*")]
+    return {path.name: ast.parse(path.read_text(encoding="utf-8")) for path in sorted(files)}
+
+
+TREES = trees()
+
+
+def functions_of(tree: ast.Module) -> list[ast.FunctionDef]:
+    return [each for each in ast.walk(tree) if isinstance(each, ast.FunctionDef)]
+
+
+def asserts(function: ast.FunctionDef) -> bool:
+    """Whether a function may fail by what it says: it asserts, raises, or calls what does so for it."""
+    names = {each.func.attr if isinstance(each.func, ast.Attribute) else getattr(each.func, "id", "")
+             for each in ast.walk(function) if isinstance(each, ast.Call)}  # fmt: skip
+    has = any(isinstance(each, ast.Assert | ast.Raise) for each in ast.walk(function))
+    return has or bool(names & {"raises", "agrees", "run_state_machine_as_test"})
+
+
+def answers(function: ast.FunctionDef) -> bool:
+    """Whether a function says what is wrong: by what it answers, or by what it raises."""
+    said = [each.value for each in ast.walk(function) if isinstance(each, ast.Return) and each.value is not None]
+    adds = {each.attr for each in ast.walk(function) if isinstance(each, ast.Attribute)} & {"add", "add_all"}
+    is_said = any(not isinstance(value, ast.Constant) or value.value is not None for value in said)
+    return is_said or bool(adds) or asserts(function)
+
+
+@pytest.mark.parametrize("file", [name for name in TREES if name.startswith("test_")])
+def test_each_function_of_trials_asserts(file: str) -> None:
+    tests = [each for each in functions_of(TREES[file]) if each.name.startswith("test_")]
+    assert tests, f"{file} has no function that pytest collects"
+    assert [each.name for each in tests if not asserts(each)] == []
+
+
+@pytest.mark.parametrize("file", [*TREES])
+def test_each_trial_of_a_script_says_what_is_wrong(file: str) -> None:
+    """A trial that forgets its `return` would always pass."""
+    trials = [each for each in functions_of(TREES[file]) if each.name.endswith(("_fault", "_trial"))]
+    silent = [each.name for each in trials if not answers(each) and not is_generator(each)]
+    assert silent == []
+
+
+def is_generator(function: ast.FunctionDef) -> bool:
+    return any(isinstance(each, ast.Yield | ast.YieldFrom) for each in ast.walk(function))
+
+
+def test_no_function_of_trials_is_left_uncollected() -> None:
+    """A function `test_..` stands in a file `test_..py`; what gives trials is used by something."""
+    elsewhere = [
+        f"{file}: {each.name}" for file, tree in TREES.items() if not file.startswith("test_")
+        for each in functions_of(tree) if each.name.startswith("test_")
+    ]  # fmt: skip
+    used = {each.id for tree in TREES.values() for each in ast.walk(tree) if isinstance(each, ast.Name)}
+    used |= {each.attr for tree in TREES.values() for each in ast.walk(tree) if isinstance(each, ast.Attribute)}
+    unused = [
+        f"{file}: {each.name}" for file, tree in TREES.items() for each in functions_of(tree)
+        if re.search(r"^(?!test_).*(_trials?|_fault)$|^trials_", each.name) and each.name not in used
+    ]  # fmt: skip
+    assert elsewhere + unused == []
