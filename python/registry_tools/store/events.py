@@ -1,0 +1,249 @@
+"""What was done to a folder of days: events in a chain. Each has the sum of the one before it and its own, so whoever
+kept the line of one sees later whether the folder has grown from there.
+
+The line of an event is the SHA-256 of `json_array(before, what, at, ..)`, as SQLite writes it: of all columns but `id`
+and `line`. schema.sql says what each kind of event has.
+"""
+import datetime
+import functools
+import json
+import sqlite3
+from collections.abc import Iterator
+from dataclasses import dataclass, fields, replace
+from pathlib import Path
+
+from registry_tools.errors import FileFault, raise_first, shown, visible
+from registry_tools.store.texts import sum_of
+
+HANDED, SOURCE, TAKEN, ASKED, APPROVED, FILED, UNDONE, RELEASED, LABELLED, UPGRADED = (
+    "handed", "source", "taken", "asked", "approved", "filed", "undone", "released", "labelled", "upgraded",
+)  # fmt: skip
+# Behind these stands what was handed in since.
+CHANGING = (FILED, UNDONE)
+# These change nothing: what is asked for still would be done as it was asked.
+ASKING = (ASKED, APPROVED)
+# What a journal of days has: what is not of the next day alone.
+OF_DAYS = (FILED, UNDONE, RELEASED, LABELLED)
+# So many digits of the last line are the short name of a folder as it stands.
+HEAD_DIGITS = 12
+BACK = "somebody changed the file by other ways than commands: put it back from a copy"
+
+
+def now() -> str:
+    """The present time, as events have it."""
+    return datetime.datetime.now(datetime.timezone.utc).strftime("%Y-%m-%dT%H:%M:%SZ")
+
+
+@dataclass(frozen=True)
+class Event:
+    """Something that was done. What a kind of event does not have is empty."""
+
+    what: str
+    at: str = ""
+    login: str = ""
+    who: str = ""
+    why: str = ""
+    base: int = 0
+    day: datetime.date | None = None
+    of: int | None = None
+    kind: str = ""
+    name: str = ""
+    start: int = 0
+    count: int = 0
+    text: str = ""
+    report: str = ""
+    waiting: str = ""
+    waits: str = ""
+    first: int = 0
+    next: int = 0
+    engine: str = ""
+    sum: str = ""
+    beside: str = ""
+    approved: str = ""
+    people: str = ""
+    before: str = ""
+    line: str = ""
+    id: int = 0
+
+    @property
+    def date(self) -> datetime.date:
+        """The settlement day, of an event that has one."""
+        assert self.day is not None
+        return self.day
+
+    @property
+    def origin(self) -> int:
+        """Of something handed in, the event that handed it in first."""
+        return self.id if self.of is None else self.of
+
+    @functools.cached_property
+    def values(self) -> tuple[object, ...]:
+        """What its columns have, in their order, without `id` and `line`."""
+        return self.before, *(value_of(name, getattr(self, FIELD_OF.get(name, name))) for name in COLUMNS)
+
+    def own_line(self) -> str:
+        """The sum of what it says with the line before it."""
+        text = json.dumps(self.values, ensure_ascii=False, separators=(",", ":"))
+        return sum_of(text.encode("utf-8", "surrogateescape"))
+
+
+# The columns between `before` and `line`, and the field of the one that is called otherwise.
+FIELD_OF = {"date": "day"}
+COLUMNS = tuple("date" if own.name == "day" else own.name for own in fields(Event))[:-3]
+ALL = ("id", "before", *COLUMNS, "line")
+# The columns that have nothing in place of an empty text.
+MAY_LACK = ("text", "report", "waiting", "waits")
+
+
+def value_of(name: str, value: object) -> object:
+    """A value as its column has it."""
+    if isinstance(value, datetime.date):
+        return str(value)
+    if name in MAY_LACK:
+        return value or None
+    # (a line has no letter that nobody sees, and a name may be no UTF-8)
+    return "".join(map(visible, value)) if isinstance(value, str) else value
+
+
+def event_of(row: sqlite3.Row | tuple[object, ...]) -> Event:
+    """The event of a row, with all columns in their order. Raises ValueError or TypeError if it can't be one."""
+    said = dict(zip(ALL, row))
+    day = said.pop("date")
+    texts = {name: said[name] or "" for name in MAY_LACK}
+    return Event(**{**said, **texts, "day": datetime.date.fromisoformat(str(day)) if day is not None else None})  # type: ignore[arg-type]
+
+
+class Events:
+    """The events of a file, and what they say of its days."""
+
+    def __init__(self, path: Path, there: list[Event]) -> None:
+        self.path = path
+        self.all: list[Event] = []
+        # The days that count, by rising date.
+        self.days: list[Event] = []
+        for event in there:
+            self.append(event)
+
+    def append(self, event: Event) -> None:
+        """Takes up an event behind the others."""
+        self.all.append(event)
+        if event.what == FILED:
+            self.days.append(event)
+        elif event.what == UNDONE and self.days:
+            self.days.pop()
+
+    @property
+    def last_line(self) -> str:
+        """The line behind which the next event stands."""
+        return self.all[-1].line if self.all else ""
+
+    @property
+    def head(self) -> str:
+        """The short name of the folder as it stands, by which people tell it from others."""
+        return self.last_line[:HEAD_DIGITS]
+
+    @property
+    def base(self) -> int:
+        """The last event that filed or undid a day; 0 before the first one."""
+        return next((event.id for event in reversed(self.all) if event.what in CHANGING), 0)
+
+    @property
+    def state(self) -> str:
+        """The line of the last event that changed something: what is asked for builds on it."""
+        return next((event.line for event in reversed(self.all) if event.what not in ASKING), "")
+
+    def since(self, base: int) -> list[Event]:
+        """The events that stand behind an event that filed or undid a day, and before the next such one."""
+        start = next((place for place, event in enumerate(self.all) if event.id > base), len(self.all))
+        end = next((place for place in range(start, len(self.all)) if self.all[place].what in CHANGING), len(self.all))
+        return self.all[start:end]
+
+    def of_id(self, number: int) -> Event:
+        """The event with this number."""
+        return self.all[number - 1]
+
+    def last(self) -> Event | None:
+        """The last day that counts."""
+        return self.days[-1] if self.days else None
+
+    def is_released(self, day: Event | None = None) -> bool:
+        """Whether a day, or else the last one, may not be undone any more: it was released, or a later one was."""
+        asked = day or self.last()
+        return asked is not None and any(own.what == RELEASED and own.date >= asked.date for own in self.all)
+
+    def day_of(self, date: datetime.date) -> Event | None:
+        """The day of this date, if it counts."""
+        return next((day for day in reversed(self.days) if day.date == date), None)
+
+    def undone(self, date: datetime.date) -> Event | None:
+        """The last event that took a day of this date back."""
+        return next((own for own in reversed(self.all) if (own.what, own.day) == (UNDONE, date)), None)
+
+    def of_days(self) -> list[Event]:
+        """The events of days and names, without those of the next day alone."""
+        return [event for event in self.all if event.what in OF_DAYS]
+
+
+def read(db: sqlite3.Connection, path: Path) -> Events:
+    """The events of a file. Ends the command at the first one that is not what it must be."""
+    events = Events(path, [])
+    raise_first(faults_of(db, events))
+    return events
+
+
+def faults_of(db: sqlite3.Connection, events: Events) -> Iterator[FileFault]:
+    """What is wrong with the events of a file. Those that can be read are taken up, as far as they follow from each
+    other."""
+    for place, row in enumerate(db.execute(f"SELECT {', '.join(ALL)} FROM events ORDER BY id"), 1):
+        where = f"event {row[0]}"
+        try:
+            event = event_of(row)
+        except (ValueError, TypeError) as error:
+            yield FileFault(events.path, 0, where, shown(str(error)), f"an event: {BACK}")
+            continue
+        if event.id != place:
+            yield FileFault(events.path, 0, where, str(event.id), f"{place}, the number behind the event before: {BACK}")
+        if event.before != events.last_line:
+            yield FileFault(events.path, 0, f"{where}, before", shown(event.before), f"{events.last_line}: {BACK}")
+        if event.line != (line := event.own_line()):
+            yield FileFault(events.path, 0, f"{where}, line", shown(event.line), f"{line}: {BACK}")
+        wrong = does_not_follow(events, event)
+        if wrong:
+            yield FileFault(events.path, 0, where, f"{event.what} {event.day or ''}".strip(), wrong)
+        events.append(event)
+
+
+def does_not_follow(events: Events, event: Event) -> str:
+    """Why an event cannot stand behind those before it; nothing, if it can."""
+    last = events.last()
+    if event.base != events.base:
+        return f"the base {events.base}"
+    if event.what == FILED:
+        if event.day is None or (last and event.date <= last.date):
+            return f"a day after {last.date}" if last else "a day"
+        if last and event.first != last.next:
+            return f"the first record {last.next}"
+    elif event.what == UNDONE:
+        if last is None or (event.of, event.day, event.first, event.next) != (last.id, last.day, last.first, last.next):
+            return f"{last.date}, the last day" if last else "a day that was filed before"
+        if events.is_released():
+            return f"no undoing of {last.date}, which was released"
+    elif event.what == RELEASED:
+        day = next((own for own in events.days if own.id == event.of), None)
+        if day is None or (event.day, event.first, event.next) != (day.day, day.first, day.next):
+            return "a day that is filed, with its records"
+    return ""
+
+
+def add(db: sqlite3.Connection, events: Events, event: Event) -> Event:
+    """Adds an event behind the others, in a change of the file, and answers it as it is kept."""
+    said = {own.name: getattr(event, own.name) for own in fields(Event)}
+    kept = {name: value_of(name, value) if isinstance(value, str) and name not in MAY_LACK else value
+            for name, value in said.items()}  # fmt: skip
+    number, base = len(events.all) + 1, events.base
+    behind = replace(Event(**kept), id=number, base=base, before=events.last_line, at=event.at or now())
+    own = replace(behind, line=behind.own_line())
+    marks = ", ".join("?" * len(ALL))
+    db.execute(f"INSERT INTO events ({', '.join(ALL)}) VALUES ({marks})", (number, *own.values, own.line))
+    events.append(own)
+    return own

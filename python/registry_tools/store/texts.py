@@ -1,0 +1,86 @@
+"""The texts of a folder of days, each by the SHA-256 of its bytes: what people gave, and what days became."""
+import hashlib
+import sqlite3
+import zlib
+from collections.abc import Iterator
+from dataclasses import dataclass
+from pathlib import Path
+
+from registry_tools.errors import FileFault, of_file
+
+# How hard zlib tries: a higher level takes three times as long for a tenth less.
+LEVEL = 6
+# Packed bytes are unpacked so many at a time, where only the first lines are asked for.
+PIECE = 1 << 16
+# SQLite keeps no longer value.
+MOST_PACKED = 1_000_000_000
+BACK = "put the file back from a copy: ./day audit --anchors tells whether it is the right one"
+
+
+def sum_of(content: bytes) -> str:
+    """The SHA-256 of some bytes, in hexadecimal digits."""
+    return hashlib.sha256(content).hexdigest()
+
+
+@dataclass(frozen=True)
+class Texts:
+    """The texts of a file. A fault names the path of the file."""
+
+    db: sqlite3.Connection
+    path: Path
+
+    def put(self, content: bytes) -> str:
+        """Keeps a text, and answers its sum. Raises FileFault if it is too long to be kept."""
+        own = sum_of(content)
+        if not self.db.execute("SELECT 1 FROM texts WHERE sum = ?", (own,)).fetchone():
+            packed = zlib.compress(content, LEVEL)
+            if len(packed) > MOST_PACKED:
+                raise of_file(self.path, f"a text of {len(content):,} bytes is longer than such a file can keep")
+            self.db.execute("INSERT INTO texts VALUES (?, ?, ?)", (own, len(content), packed))
+        return own
+
+    def get(self, own: str) -> bytes:
+        """The text with this sum. Raises FileFault if it is not there, or another one."""
+        try:
+            content = zlib.decompress(self.packed(own))
+        except zlib.error as error:
+            raise self.fault(own, f"bytes that cannot be unpacked: {error}") from None
+        if (there := sum_of(content)) != own:
+            raise self.fault(own, there)
+        return content
+
+    def lines(self, own: str) -> Iterator[str]:
+        """The lines of a text: only what is asked for is unpacked. Nobody has compared their sum."""
+        unpacker, left, rest = zlib.decompressobj(), self.packed(own), b""
+        try:
+            while left and not unpacker.eof:
+                rest += unpacker.decompress(left, PIECE)
+                left = unpacker.unconsumed_tail
+                *lines, rest = rest.split(b"\n")
+                yield from (line.decode("utf-8", "surrogateescape") for line in lines)
+        except zlib.error as error:
+            raise self.fault(own, f"bytes that cannot be unpacked: {error}") from None
+        if rest:
+            yield rest.decode("utf-8", "surrogateescape")
+
+    def packed(self, own: str) -> bytes:
+        """The packed bytes of a text."""
+        row = self.db.execute("SELECT packed FROM texts WHERE sum = ?", (own,)).fetchone()
+        if row is None:
+            raise self.fault(own, "no such text")
+        return bytes(row[0])
+
+    def fault(self, own: str, found: str) -> FileFault:
+        """What is wrong with a text."""
+        return FileFault(self.path, 0, f"text {own[:12]}", found, f"the text with the SHA-256 {own}: {BACK}")
+
+    def faults(self) -> Iterator[FileFault]:
+        """What is wrong with all texts."""
+        for own, size in self.db.execute("SELECT sum, size FROM texts ORDER BY sum").fetchall():
+            try:
+                content = self.get(own)
+            except FileFault as fault:
+                yield fault
+                continue
+            if len(content) != size:
+                yield self.fault(own, f"the size {size}, and {len(content)} bytes")
