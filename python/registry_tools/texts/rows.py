@@ -4,12 +4,13 @@ import csv
 import errno
 import functools
 import gzip
+import hashlib
 import io
 import os
 import re
 import sys
 import zlib
-from collections.abc import Iterator, Sequence
+from collections.abc import Callable, Iterator, Sequence
 from dataclasses import dataclass, field
 from pathlib import Path
 
@@ -59,6 +60,18 @@ class Rows:
         return FileFault(self.path, self.line(index), name, found, expected)
 
 
+class KeptText(str):
+    """The name of a text that lies in no file of its own, as faults tell it: `content` is asked whenever the text is
+    read by this name."""
+
+    def __new__(cls, name: str, _content: Callable[[], bytes]) -> "KeptText":
+        return super().__new__(cls, name)
+
+    def __init__(self, _name: str, content: Callable[[], bytes]) -> None:
+        super().__init__()
+        self.content = content
+
+
 @functools.lru_cache(maxsize=None)
 def read_once(path: str) -> bytes:
     """The content of what can be read only once: standard input, whose name is `-`, or a pipe."""
@@ -72,6 +85,8 @@ def read_once(path: str) -> bytes:
 def packed_bytes_of(path: str | Path) -> bytes:
     """The content of a file, or of standard input, whose name is `-`, as it is there."""
     progress.tell(f"reading {path}")
+    if isinstance(path, KeptText):
+        return path.content()
     try:
         return opening.read(path) if is_file(path) else read_once(str(path))
     except OSError as error:
@@ -79,8 +94,8 @@ def packed_bytes_of(path: str | Path) -> bytes:
 
 
 def bytes_of(path: str | Path) -> bytes:
-    """The text that a file or standard input has."""
-    return unpacked(path, packed_bytes_of(path))
+    """The text that a file or standard input has, or one that is kept."""
+    return path.content() if isinstance(path, KeptText) else unpacked(path, packed_bytes_of(path))
 
 
 def unpacked(path: str | Path, content: bytes, most: int = MOST_TEXT) -> bytes:
@@ -109,14 +124,16 @@ def unzipped(path: str | Path, content: bytes, most: int) -> bytes:
 
 
 def is_file(path: str | Path) -> bool:
-    """Whether a path names a file that can be read again and again."""
-    return str(path) != "-" and Path(path).is_file()
+    """Whether a path names a file that can be read again and again, or a text that is kept."""
+    return isinstance(path, KeptText) or (str(path) != "-" and Path(path).is_file())
 
 
 def begins_with(path: str | Path, starts: tuple[str, ...]) -> bool:
     """Whether the first row of a file begins so; of one that cannot be read, nobody knows."""
     try:
-        if is_file(path):
+        if isinstance(path, KeptText):
+            start = path.content()[:FIRST_BYTES]
+        elif is_file(path):
             with open(opening.open_file(path, os.O_RDONLY), "rb") as file:
                 start = file.read(FIRST_BYTES)
         else:
@@ -124,6 +141,11 @@ def begins_with(path: str | Path, starts: tuple[str, ...]) -> bool:
     except OSError:
         return False
     return start.decode("utf-8-sig", "replace").lstrip("\r\n").startswith(starts)
+
+
+def sum_of(content: bytes) -> str:
+    """The SHA-256 of some bytes, in hexadecimal digits."""
+    return hashlib.sha256(content).hexdigest()
 
 
 def rows_of(path: str | Path) -> Rows:

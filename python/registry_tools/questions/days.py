@@ -1,0 +1,72 @@
+"""Settled days that are asked: their tables (store/daybook.py), and their texts, by their dates. Those of a folder are
+there; those of pairs of paths are read, and their tables made in memory."""
+import datetime
+import sqlite3
+from collections.abc import Sequence
+from dataclasses import dataclass, field
+
+from registry_tools.errors import WordsFault
+from registry_tools.store import daybook
+from registry_tools.store.past import PastDay, Pair, read, read_all
+from registry_tools.texts.rows import bytes_of, sum_of
+
+
+@dataclass
+class Days:
+    """Settled days, by rising date. `head` is that of the folder which has them; of paths it is empty."""
+
+    database: sqlite3.Connection
+    pairs: dict[datetime.date, Pair]
+    head: str = ""
+    # The last one that was read, so that nobody reads it twice.
+    read: dict[datetime.date, PastDay] = field(default_factory=dict)
+
+    @property
+    def dates(self) -> list[datetime.date]:
+        """The dates of all days."""
+        return [*self.pairs]
+
+    @property
+    def is_of_paths(self) -> bool:
+        """Whether the days are those of paths."""
+        return not self.head
+
+    def between(self, begin: datetime.date, end: datetime.date) -> list[datetime.date]:
+        """The dates of the days from one on, and up to another one."""
+        return [date for date in self.pairs if begin <= date <= end]
+
+    def first(self) -> Pair | None:
+        """The pair of the first day."""
+        return next(iter(self.pairs.values()), None)
+
+    def last_until(self, date: datetime.date) -> datetime.date | None:
+        """The last day up to a date."""
+        return max((own for own in self.pairs if own <= date), default=None)
+
+    def day(self, date: datetime.date) -> PastDay:
+        """A day with its report, and without the day before it."""
+        if date not in self.read:
+            self.read = {date: PastDay(*read(self.pairs[date]), None, [])}
+        return self.read[date]
+
+
+def of_pairs(pairs: Sequence[Pair]) -> Days:
+    """The days of pairs of paths, of which all are read."""
+    found = Days(daybook.in_memory(), {})
+    for pair, past_day in zip(pairs, read_all(pairs)):
+        daybook.add_day(found.database, past_day, sums_of_pair(pair))
+        found.pairs[past_day.date] = pair
+        found.read = {past_day.date: past_day}
+    return found
+
+
+def sums_of_pair(pair: Pair) -> tuple[str, str]:
+    """The SHA-256 of the two texts of a pair."""
+    return sum_of(bytes_of(pair.day)), sum_of(bytes_of(pair.report))
+
+
+def pairs_named(paths: Sequence[str]) -> list[Pair]:
+    """The pairs of which these are the paths."""
+    if len(paths) % 2:
+        raise WordsFault(f"--pairs has {len(paths)} files: each DAY needs its REPORT behind it")
+    return [*map(Pair, paths[::2], paths[1::2])]
