@@ -1,5 +1,4 @@
 """The texts of a folder of days, each by the SHA-256 of its bytes: what people gave, and what days became."""
-import hashlib
 import sqlite3
 import zlib
 from collections.abc import Iterator
@@ -7,6 +6,7 @@ from dataclasses import dataclass
 from pathlib import Path
 
 from registry_tools.errors import FileFault, of_file
+from registry_tools.texts.rows import sum_of as sum_of
 
 # How hard zlib tries: a higher level takes three times as long for a tenth less.
 LEVEL = 6
@@ -15,11 +15,6 @@ PIECE = 1 << 16
 # SQLite keeps no longer value.
 MOST_PACKED = 1_000_000_000
 BACK = "put the file back from a copy: ./day audit --anchors tells whether it is the right one"
-
-
-def sum_of(content: bytes) -> str:
-    """The SHA-256 of some bytes, in hexadecimal digits."""
-    return hashlib.sha256(content).hexdigest()
 
 
 @dataclass(frozen=True)
