@@ -1,13 +1,15 @@
 """Settled days that are asked: their tables (store/daybook.py), and their texts, by their dates. Those of a folder are
 there; those of pairs of paths are read, and their tables made in memory."""
+import contextlib
 import datetime
 import sqlite3
-from collections.abc import Sequence
+from collections.abc import Iterator, Sequence
 from dataclasses import dataclass, field
 
 from registry_tools.errors import WordsFault
 from registry_tools.store import daybook
-from registry_tools.store.past import PastDay, Pair, read, read_all
+from registry_tools.store.file import Store, telling
+from registry_tools.store.past import PastDay, Pair, pair_of, read, read_all
 from registry_tools.texts.rows import bytes_of, sum_of
 
 
@@ -31,6 +33,10 @@ class Days:
         """Whether the days are those of paths."""
         return not self.head
 
+    def close(self) -> None:
+        """Lets the tables go."""
+        self.database.close()
+
     def between(self, begin: datetime.date, end: datetime.date) -> list[datetime.date]:
         """The dates of the days from one on, and up to another one."""
         return [date for date in self.pairs if begin <= date <= end]
@@ -48,6 +54,14 @@ class Days:
         if date not in self.read:
             self.read = {date: PastDay(*read(self.pairs[date]), None, [])}
         return self.read[date]
+
+
+@contextlib.contextmanager
+def of_store(store: Store) -> Iterator[Days]:
+    """The days of a folder, as they are at one moment: nobody changes the file meanwhile."""
+    with telling(store.path), store.reading():
+        pairs = {event.date: pair_of(store, event) for event in store.events.days}
+        yield Days(store.db, pairs, store.events.head)
 
 
 def of_pairs(pairs: Sequence[Pair]) -> Days:

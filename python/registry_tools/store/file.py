@@ -62,6 +62,20 @@ class Store:
                 self.roll_back()
                 raise
 
+    @contextlib.contextmanager
+    def reading(self) -> Iterator[None]:
+        """All that the block reads is as it is at one moment: a change of others waits for its end."""
+        if self.db.in_transaction:
+            yield
+            return
+        self.db.execute("BEGIN")
+        try:
+            if last_line(self.db) != self.events.last_line:
+                self.events = events.read(self.db, self.path)
+            yield
+        finally:
+            self.db.execute("ROLLBACK")
+
     def begin(self) -> None:
         """Begins a change, and reads what others have done since the file was opened."""
         self.db.execute(f"PRAGMA busy_timeout = {SHORT_WAIT}")

@@ -1,0 +1,34 @@
+"""Shows all that became of an account: each instruction that touched it with what it then held, and each change by hand
+between two days.
+"""
+import argparse
+
+from registry_tools import showing, tables
+from registry_tools.cli import asked
+from registry_tools.errors import WordsFault
+from registry_tools.office.labels import Labels
+from registry_tools.questions.history import history
+
+EXAMPLE = "./day history 100377 --office out/office"
+COLUMNS = tables.COLUMNS["history"]
+
+
+def add_words(parser: argparse.ArgumentParser) -> None:
+    """Tells a parser the words of the command."""
+    parser.add_argument("account", metavar="ACCOUNT", help="an account, by its number or its name")
+    showing.add_words(parser)
+    asked.add_words(parser)
+
+
+def run(said: argparse.Namespace) -> int:
+    """Runs the command, and answers the exit status."""
+    with asked.opened(said) as own:
+        account = asked.number_said("ACCOUNT", said.account, own.names)
+        if not own.days.dates:
+            raise WordsFault("no day is settled yet")
+        names = Labels() if showing.is_for_programs(said) else own.names
+        rows = history(own.days, account, names.account)
+    if not rows:
+        raise WordsFault(f"no day has had an account {account}")
+    showing.show(said, COLUMNS, rows)
+    return 0
