@@ -49,7 +49,8 @@ def opened(said: argparse.Namespace) -> Iterator[Asked]:
         with contextlib.closing(days.of_pairs(days.pairs_named(said.pairs))) as own:
             yield Asked(own, None, Labels())
         return
-    with folder.opened(said.office) as office, days.of_store(office.store) as own:
+    office = folder.opened(said.office)
+    with days.at_one_moment(office.store) as own:
         yield Asked(own, office, labels.of_office(office))
 
 

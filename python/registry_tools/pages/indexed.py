@@ -1,20 +1,13 @@
-"""The days of a statement by the index of a folder: those of one account, of which no book is unpacked."""
+"""The days of a statement of one account, by the tables of the days: no book is unpacked for them."""
 import datetime
-import sqlite3
+from collections.abc import Mapping, Sequence
 from dataclasses import dataclass
-from typing import Iterable, Iterator, Mapping, Sequence
 
-from registry_tools.office import index
-from registry_tools.office.asking import NAMING, hand_changes, logged
-from registry_tools.office.folder import Office
-from registry_tools.questions.history import first_row
+from registry_tools.questions.accounts import HELD, AccountOverTime
+from registry_tools.questions.days import Days
+from registry_tools.questions.records import NAMING, logged
 from registry_tools.second import rules
 from registry_tools.texts.own import OwnRow, own_row_of
-
-USERS = (
-    "SELECT user FROM users WHERE account = :account AND date ="
-    " (SELECT max(date) FROM accounts_by_day WHERE account = :account AND date <= :date)"
-)
 
 
 @dataclass
@@ -36,49 +29,31 @@ class IndexedDay:
         return self.representatives
 
 
-def days_of(office: Office, number: int, most: int) -> list[IndexedDay]:
-    """The last days of a folder, at most so many, as DayOfAccounts tells them of this account. Raises FileFault if one
-    of them is not as it was filed."""
-    filed = office.journal.filed()
-    begin, end = filed[-most:][0].date, filed[-1].date
-    with index.opened(office, begin, end) as database:
-        known = openings(database, number, first_row(office, number) if len(filed) <= most else ())
-        log: dict[datetime.date, list[OwnRow]] = {event.date: [] for event in filed[-most:]}
-        for row in logged(office, database, [NAMING, "i.date >= :begin"], {"account": number, "begin": str(begin)}):
-            is_named = number in rules.named(row.instruction)
-            own = own_row_of(row, number, lambda other: users_on(database, other, row.date)) if is_named else None
-            log[row.date] += [own] if own else []
-        days = ((date, next(before_day(known, date), None), own) for date, own in log.items())
-        return [
-            IndexedDay(date, {number: own if held else []}, held, users_on(database, number, date))
-            for date, held, own in days
-        ]
+def days_of(days: Days, number: int, most: int) -> list[IndexedDay]:
+    """The last days, at most so many, as DayOfAccounts tells them of this account."""
+    dates = days.dates[-most:]
+    accounts = {number: AccountOverTime(days, number)}
+
+    def users_on(other: int, date: datetime.date) -> set[str]:
+        if other not in accounts:
+            accounts[other] = AccountOverTime(days, other)
+        return accounts[other].users_on(str(date))
+
+    log: dict[datetime.date, list[OwnRow]] = {date: [] for date in dates}
+    for row in logged(days, [NAMING, "i.date >= :begin"], {"account": number, "begin": str(dates[0])}):
+        is_named = number in rules.named(row.instruction)
+        own = own_row_of(row, number, lambda other: users_on(other, row.date)) if is_named else None
+        log[row.date] += [own] if own else []
+    held = {date: held_before(days, accounts[number], date) for date in dates}
+    return [
+        IndexedDay(date, {number: own if held[date] else []}, held[date], users_on(number, date))
+        for date, own in log.items()
+    ]
 
 
-def users_on(database: sqlite3.Connection, number: int, date: datetime.date) -> set[str]:
-    """The representatives of an account on a day, as they are spelled."""
-    return {str(user) for (user,) in database.execute(USERS, {"account": number, "date": str(date)})}
-
-
-def openings(
-    database: sqlite3.Connection, number: int, first: Iterable[tuple[str, str]]
-) -> list[tuple[str, bool, dict[str, int]]]:
-    """What an account held, the latest first: behind a day, or before one by its row there, which is said by True: the
-    row of the first text, or one that people changed. `first` has that of the first text, if the days begin there."""
-    said = "SELECT date, general, aviation FROM accounts_by_day WHERE account = ? ORDER BY date"
-    found = [(date, False, [*held]) for date, *held in database.execute(said, (number,))]
-    for date, row in [*first, *rows_by_hand(database, number)]:
-        found.append((date, True, [*map(int, row.split(",")[8:10])]))
-    found.sort(key=lambda own: (own[0], not own[1]), reverse=True)
-    return [(date, is_new, dict(zip(rules.KINDS, held))) for date, is_new, held in found]
-
-
-def rows_by_hand(database: sqlite3.Connection, number: int) -> Iterator[tuple[str, str]]:
-    """The rows with which people made an account or changed it, each with its day."""
-    changes = hand_changes(database, "account = ? AND sign = '+' AND text LIKE 'account,%'", number)
-    return ((date, change.row) for date, change in changes)
-
-
-def before_day(held: list[tuple[str, bool, dict[str, int]]], date: datetime.date) -> Iterator[dict[str, int]]:
-    """What an account held before a day, of all that it held, the latest first."""
-    return (own for day, is_new, own in held if day < str(date) or is_new and day == str(date))
+def held_before(days: Days, account: AccountOverTime, date: datetime.date) -> dict[str, int] | None:
+    """What an account held before a day; None, if it was not there."""
+    if date == days.dates[0]:
+        rows = days.first_text.get(account.number)
+        return dict(zip(rules.KINDS, map(int, rows[0].split(",")[HELD]))) if rows else None
+    return dict(zip(rules.KINDS, account.held_before(str(date)))) if account.place(str(date)) >= 0 else None

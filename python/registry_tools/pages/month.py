@@ -1,44 +1,31 @@
-"""Makes one page of several days for a director: how many operators are compliant, who is missing how much until which
-deadline, the totals as lines over the days, what was refused and why, what waits, and what was changed by hand.
-
-FILE is an HTML page that leads nowhere and prints. Compliance is that of --year; without it, of the last year of the
-current period that is over. No rule of a day text tells a deadline: --deadline names it, or office.ini.
-Of an account without emissions of some year nobody knows how much is missing: its bar has a frame without an end.
-"""
-import argparse
+"""One page of several days for a director: how many operators are compliant, who is missing how much until which
+deadline, the totals as lines over the days, what was refused and why, what waits, and what was changed by hand."""
 import datetime
 from collections import Counter
+from collections.abc import Iterator
 from dataclasses import dataclass
-from typing import Iterator
 
 from registry_tools.calendars.deadlines import DueDates
-from registry_tools.calendars.due_days import NOT_DUE
 from registry_tools.errors import WordsFault
-from registry_tools.office import index, naming, past
-from registry_tools.office.asking import hand_changes
 from registry_tools.office.folder import Office
-from registry_tools.office.journal import UNDONE
 from registry_tools.office.labels import Labels
-from registry_tools.office.past import PastDay
 from registry_tools.office.waits import waiting_behind
-from registry_tools.options import is_same_file
-from registry_tools.output import NewFile
 from registry_tools.pages import letter
 from registry_tools.pages.account import chart
 from registry_tools.pages.beside import words_of_row
 from registry_tools.pages.html import Markup, Table, heading, paragraph
 from registry_tools.pages.month_standing import Way, compliance_parts, first_rows_of, no_way
 from registry_tools.pages.plan import figure
-from registry_tools.pages.settled import NO_DUE_DAY, OUTCOMES, count_of, kind_of, long_date
+from registry_tools.pages.settled import NO_DUE_DAY, OUTCOMES, long_date
+from registry_tools.questions.days import Days
+from registry_tools.questions.month import DayOfMonth, month
 from registry_tools.second import rules
+from registry_tools.store.events import UNDONE
 from registry_tools.texts import changes as by_hand
-from registry_tools.texts.books import sums_of
-from registry_tools.texts.changes import HandChange
 from registry_tools.texts.checks import checks
 from registry_tools.texts.in_words import grouped, instruction_in_words
 from registry_tools.texts.pending import Waiting
 
-EXAMPLE = "./day month out/september.html --from 2025-09-01 --deadline 2025-09-30 --office out/office"
 REFUSALS = Table(["Refused", "How often", "Why"], ("How often",))
 BY_HAND = Table(["Day", "Account", "Change"])
 OF_RULES, WORK = "the rules", "work,"
@@ -47,63 +34,17 @@ NUMBERS_OF_DAY = (*map(str.capitalize, OUTCOMES), *KIND_COLUMNS)
 DAYS = Table(["Day", *NUMBERS_OF_DAY], NUMBERS_OF_DAY)
 WAITING = Table(["Due", "Record", "Instruction"])
 NOTHING = "Nothing."
-def add_words(parser: argparse.ArgumentParser) -> None:
-    """Tells a parser the words of the command."""
-    parser.add_argument("file", metavar="FILE", help="the page that is written")
-    parser.add_argument("--from", dest="begin", metavar="DATE", help="the first day")
-    parser.add_argument("--to", dest="end", metavar="DATE", help="the last day")
-    parser.add_argument("--year", type=int, metavar="Y", help="the year of compliance")
-    parser.add_argument("--deadline", metavar="DATE", help="until when what is missing has to be surrendered")
-    past.add_words(parser)
 
 
-@dataclass
-class DayOfMonth:
-    """What a page of several days tells of one of them: how many instructions were done and only wait, the checks that
-    refused others, the allowances after it, and what people changed before it."""
+@dataclass(frozen=True)
+class Month:
+    """Which days stand on the page: from one on, and up to another one. Compliance is that of the year, or of the last
+    one that is over; the deadline is the one of the office, if no other is named."""
 
-    date: datetime.date
-    done: int
-    waiting: int
-    refused: Counter[str]
-    allowances: dict[str, int]
-    changes: list[HandChange]
-
-
-def day_of_pair(past_day: PastDay) -> DayOfMonth:
-    """What the page tells of a day, of its pair."""
-    sums, log = sums_of(past_day.report.book_rows), past_day.report.log
-    refused = Counter(logged.name for logged in log if kind_of(logged) == "refused")
-    allowances = {kind: sums[kind].allowances for kind in rules.KINDS}
-    done, waiting = (sum(kind_of(logged) == kind for logged in log) for kind in ("done", "waiting"))
-    return DayOfMonth(past_day.date, done, waiting, refused, allowances, [*past_day.changes()])
-
-
-def days_of_folder(office: Office, begin: datetime.date, end: datetime.date) -> list[DayOfMonth]:
-    """The days of a folder, by its index."""
-    span = str(begin), str(end)
-    days = {
-        str(event.date): DayOfMonth(event.date, 0, 0, Counter(), {}, [])
-        for event in office.journal.filed() if begin <= event.date <= end
-    }  # fmt: skip
-    with index.opened(office, begin, end) as database:
-        counted = (
-            "SELECT date, name, count(*) FROM instructions JOIN log USING (record) WHERE date BETWEEN ? AND ?"
-            " GROUP BY date, name ORDER BY date, min(record)"
-        )
-        for date, name, count in database.execute(counted, span):
-            if name is None:
-                days[date].done = count
-            elif name == NOT_DUE:
-                days[date].waiting = count
-            else:
-                days[date].refused[name] = count
-        totals = "SELECT date, kind, held + surrendered FROM totals WHERE date BETWEEN ? AND ?"
-        for date, kind, allowances in database.execute(totals, span):
-            days[date].allowances[kind] = allowances
-        for date, change in hand_changes(database, "date BETWEEN ? AND ?", *span):
-            days[date].changes.append(change)
-    return [*days.values()]
+    begin: datetime.date = datetime.date.min
+    end: datetime.date = datetime.date.max
+    year: int | None = None
+    deadline: datetime.date | None = None
 
 
 def totals_parts(days: list[DayOfMonth], way: Way) -> Iterator[Markup]:
@@ -150,7 +91,7 @@ def lead_of(days: list[DayOfMonth], office: Office | None, waiting: list[Waiting
     if office:
         waits = f", waiting {grouped(len(waiting))}"
         span = days[0].date, days[-1].date
-        back = sum(own.event == UNDONE and span[0] <= own.date <= span[1] for own in office.journal.events)
+        back = sum(own.what == UNDONE and span[0] <= own.date <= span[1] for own in office.events.all)
     taken = f" Closings taken back: {back}." if back else ""
     return f"Days: {len(days)}. Done {grouped(done)}, refused {grouped(refused)}{waits}.{taken}"
 
@@ -180,47 +121,25 @@ def hand_parts(days: list[DayOfMonth], names: Labels, most: int | None, way: Way
         yield paragraph(NOTHING)
 
 
-def days_of(said: argparse.Namespace, begin: datetime.date, end: datetime.date) -> tuple[list[DayOfMonth], PastDay]:
-    """The days of the page, and the last one of them with its pair. No other pair of a folder is unpacked."""
-    days: list[DayOfMonth] = []
-    last: PastDay | None = None
-    pairs = past.pairs_of(said, begin, end)
-    if said.pairs:
-        for past_day in past.read_all(pairs):
-            if begin <= past_day.date <= end:
-                days.append(day_of_pair(past_day))
-                last = past_day
-    else:
-        days = days_of_folder(past.office_of(said), begin, end)
-        last = next(past.read_all(pairs[-1:])) if days else None
-    if last is None:
-        raise WordsFault("no day was settled in this time")
-    return days, last
-
-
 def parts_of(
-    said: argparse.Namespace, most: int | None = None, way: Way = no_way
+    days: Days, office: Office | None, names: Labels, asked: Month, most: int | None = None, way: Way = no_way
 ) -> tuple[str, str, list[Markup]]:
-    """What stands on the page: its title, its first line, and its parts, with at most so many rows in a table."""
-    days, last = days_of(said, *past.span_of(said))
-    deadline = past.date_or("--deadline", said.deadline, None)
-    office = None if said.pairs else past.office_of(said)
-    due, names = office.settings.due if office else DueDates(), naming.known_to(said)
+    """What stands on the page: its title, its first line, and its parts, with at most so many rows in a table. Of all
+    days only the last one is unpacked, with what waits behind it. Raises WordsFault if there is no day."""
+    found = month(days, asked.begin, asked.end)
+    if not found:
+        raise WordsFault("no day was settled in this time")
+    last, due = days.day(found[-1].date), office.settings.due if office else DueDates()
     waiting = waiting_behind(office, last.date) if office else []
-    compliance = compliance_parts(last, said.year, deadline, due, names, most, way)
-    parts = [*compliance, *totals_parts(days, way), *refusal_parts(days)]
+    compliance = compliance_parts(last, asked.year, asked.deadline, due, names, most, way)
+    parts = [*compliance, *totals_parts(found, way), *refusal_parts(found)]
     parts += still_waiting(waiting, names, most) if office else []
-    parts += hand_parts(days, names, most, way)
-    return f"{long_date(days[0].date)} to {long_date(days[-1].date)}", lead_of(days, office, waiting), parts
+    parts += hand_parts(found, names, most, way)
+    return f"{long_date(found[0].date)} to {long_date(last.date)}", lead_of(found, office, waiting), parts
 
 
-def run(said: argparse.Namespace) -> int:
-    """Runs the command, and answers the exit status."""
-    pairs = past.pairs_of(said, *past.span_of(said))
-    if any(is_same_file(path, said.file) for pair in pairs for path in (pair.day, pair.report)):
-        raise WordsFault(f"{said.file} is one of the files that the command reads")
-    title, lead, parts = parts_of(said)
-    head = "" if said.pairs else letter.head_in_words(past.office_of(said).journal.head)
-    NewFile(said.file, letter.page_of(title, f"{lead} {head}".rstrip(), parts)).keep()
-    print(f"{said.file}: days {lead.removeprefix('Days: ').partition('.')[0]}")
-    return 0
+def page_of(days: Days, office: Office | None, names: Labels, asked: Month) -> tuple[str, str]:
+    """The first line of the page, and its text."""
+    title, lead, parts = parts_of(days, office, names, asked)
+    head = letter.head_in_words(days.head) if days.head else ""
+    return lead, letter.page_of(title, f"{lead} {head}".rstrip(), parts)

@@ -3,7 +3,7 @@ the days. No book is unpacked for them, but that of the first text."""
 import bisect
 import datetime
 from collections import defaultdict
-from collections.abc import Iterable, Iterator, Sequence
+from collections.abc import Iterable, Sequence
 
 from registry_tools.questions.days import Days
 from registry_tools.questions.records import NAMING, SPAN, hand_changes, logged
@@ -12,7 +12,7 @@ from registry_tools.store.past import PastDay
 from registry_tools.texts.accounts import Block
 from registry_tools.texts.day_text import DayText
 from registry_tools.texts.report import LogRow, Report
-from registry_tools.texts.rows import Rows, rows_of
+from registry_tools.texts.rows import Rows
 
 # Where the `account` row says what the account holds.
 HELD = slice(8, 10)
@@ -70,37 +70,25 @@ class AccountOverTime:
         return [",".join(map(str, fields)), *self.users[self.dates[place]]]
 
 
-def rows_of_first_text(days: Days, numbers: Iterable[int]) -> Iterator[tuple[int, str]]:
-    """The rows of these accounts in the first text, each with its account. Only this text is unpacked."""
-    wanted, own = {*numbers}, 0
-    for row in rows_of(days.pairs[days.dates[0]].day).rows if days.pairs else ():
-        if row.startswith("account,"):
-            own = int(row.split(",", 2)[1])
-        elif row.startswith(("do,", "end")):
-            break
-        if own in wanted:
-            yield own, row
-
-
 def excerpts(days: Days, dates: Sequence[datetime.date], numbers: list[int]) -> list[PastDay]:
     """These days with these accounts, and with the log rows that name them."""
+    if not dates:
+        return []
     log = log_of(days, dates, numbers)
     asked = {*numbers, *(row.instruction.first for rows in log.values() for row in rows)}
     accounts = {number: AccountOverTime(days, number) for number in sorted(asked)}
     made = [excerpt(date, log[date], accounts) for date in dates]
-    if dates and dates[0] == days.dates[0]:
+    if dates[0] == days.dates[0]:
         # (no day before it says what the accounts held)
-        blocks: dict[int, list[str]] = defaultdict(list)
-        for number, row in rows_of_first_text(days, asked):
-            blocks[number].append(row)
-        made[0].day.source, made[0].day.book = books_of(str(dates[0]), blocks)
+        first = {number: days.first_text.get(number, []) for number in sorted(asked)}
+        made[0].day.source, made[0].day.book = books_of(str(dates[0]), first)
     return made
 
 
 def log_of(days: Days, dates: Sequence[datetime.date], numbers: list[int]) -> dict[datetime.date, list[LogRow]]:
     """The log rows that name one of the accounts, by their days."""
     found: dict[int, LogRow] = {}
-    for number in numbers if dates else ():
+    for number in numbers:
         values = {"account": number, "begin": str(dates[0]), "end": str(dates[-1])}
         found.update((row.record, row) for row in logged(days, [NAMING, *SPAN], values))
     by_day: dict[datetime.date, list[LogRow]] = defaultdict(list)

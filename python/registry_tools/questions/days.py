@@ -2,6 +2,7 @@
 there; those of pairs of paths are read, and their tables made in memory."""
 import contextlib
 import datetime
+import functools
 import sqlite3
 from collections.abc import Iterator, Sequence
 from dataclasses import dataclass, field
@@ -10,7 +11,7 @@ from registry_tools.errors import WordsFault
 from registry_tools.store import daybook
 from registry_tools.store.file import Store, telling
 from registry_tools.store.past import PastDay, Pair, pair_of, read, read_all
-from registry_tools.texts.rows import bytes_of, sum_of
+from registry_tools.texts.rows import bytes_of, rows_of, sum_of
 
 
 @dataclass
@@ -28,10 +29,18 @@ class Days:
         """The dates of all days."""
         return [*self.pairs]
 
-    @property
-    def is_of_paths(self) -> bool:
-        """Whether the days are those of paths."""
-        return not self.head
+    @functools.cached_property
+    def first_text(self) -> dict[int, list[str]]:
+        """The rows of each account in the text of the first day: no day before it says what accounts held."""
+        found: dict[int, list[str]] = {}
+        own: list[str] = []
+        for row in rows_of(self.pairs[self.dates[0]].day).rows if self.pairs else ():
+            if row.startswith("account,"):
+                own = found.setdefault(int(row.split(",", 2)[1]), [])
+            elif row.startswith(("do,", "end")):
+                break
+            own.append(row)
+        return found
 
     def close(self) -> None:
         """Lets the tables go."""
@@ -40,10 +49,6 @@ class Days:
     def between(self, begin: datetime.date, end: datetime.date) -> list[datetime.date]:
         """The dates of the days from one on, and up to another one."""
         return [date for date in self.pairs if begin <= date <= end]
-
-    def first(self) -> Pair | None:
-        """The pair of the first day."""
-        return next(iter(self.pairs.values()), None)
 
     def last_until(self, date: datetime.date) -> datetime.date | None:
         """The last day up to a date."""
@@ -56,12 +61,17 @@ class Days:
         return self.read[date]
 
 
+def of_store(store: Store) -> Days:
+    """The days of a folder."""
+    pairs = {event.date: pair_of(store, event) for event in store.events.days}
+    return Days(store.db, pairs, store.events.head)
+
+
 @contextlib.contextmanager
-def of_store(store: Store) -> Iterator[Days]:
-    """The days of a folder, as they are at one moment: nobody changes the file meanwhile."""
+def at_one_moment(store: Store) -> Iterator[Days]:
+    """The days of a folder as they are at one moment: whoever changes the file waits for the end of the block."""
     with telling(store.path), store.reading():
-        pairs = {event.date: pair_of(store, event) for event in store.events.days}
-        yield Days(store.db, pairs, store.events.head)
+        yield of_store(store)
 
 
 def of_pairs(pairs: Sequence[Pair]) -> Days:

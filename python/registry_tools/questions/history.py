@@ -3,7 +3,7 @@ between two days."""
 from collections.abc import Callable, Iterator
 
 from registry_tools.notes import BY_HAND
-from registry_tools.questions.accounts import HELD, AccountOverTime, rows_of_first_text
+from registry_tools.questions.accounts import HELD, AccountOverTime
 from registry_tools.questions.days import Days
 from registry_tools.questions.records import NAMING, hand_changes, logged
 from registry_tools.showing import Cell
@@ -21,9 +21,8 @@ def history(days: Days, account: int, name_of: Callable[[object], str] = str) ->
 
 def first_row(days: Days, account: int) -> Iterator[list[Cell]]:
     """The account as the first text has it, if it has it."""
-    for _, row in rows_of_first_text(days, [account]):
-        if row.startswith("account,"):
-            yield [str(days.dates[0]), None, f"first text: {row}", BY_HAND, *map(int, row.split(",")[HELD])]
+    for row in days.first_text.get(account, [])[:1]:
+        yield [str(days.dates[0]), None, f"first text: {row}", BY_HAND, *map(int, row.split(",")[HELD])]
 
 
 def hand_rows(days: Days, account: int) -> Iterator[list[Cell]]:
