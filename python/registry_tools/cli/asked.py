@@ -12,7 +12,7 @@ from registry_tools import showing, tables
 from registry_tools.calendars.dates import date_of
 from registry_tools.errors import WordsFault, shown
 from registry_tools.office import folder, labels, naming
-from registry_tools.office.folder import Office
+from registry_tools.office.office import Office
 from registry_tools.office.labels import ACCOUNT, Labels
 from registry_tools.questions import days
 from registry_tools.questions.days import Days
@@ -41,10 +41,8 @@ def add_words(parser: argparse.ArgumentParser) -> None:
 
 @contextlib.contextmanager
 def opened(said: argparse.Namespace) -> Iterator[Asked]:
-    """The days that the words ask, as they are at one moment. Ends the command if it is told two places where they are:
-    only one of them would be looked at."""
-    if said.pairs and said.office is not None:
-        raise WordsFault("--pairs stands in place of --office")
+    """The days that the words ask, as they are at one moment."""
+    must_be_one_place(said)
     if said.pairs:
         with contextlib.closing(days.of_pairs(days.pairs_named(said.pairs))) as own:
             yield Asked(own, None, Labels())
@@ -52,6 +50,12 @@ def opened(said: argparse.Namespace) -> Iterator[Asked]:
     office = folder.opened(said.office)
     with days.at_one_moment(office.store) as own:
         yield Asked(own, office, labels.of_office(office))
+
+
+def must_be_one_place(said: argparse.Namespace) -> None:
+    """Ends the command if it is told two places where the days are: only one of them would be looked at."""
+    if said.pairs and said.office is not None:
+        raise WordsFault("--pairs stands in place of --office")
 
 
 # Dates.

@@ -1,57 +1,14 @@
-"""Names in what commands are told and in what they show: a folder of days has some, paths have none."""
-import argparse
-import re
+"""Names beside the numbers of what is shown."""
 from collections.abc import Mapping, Sequence
 
-from registry_tools import showing, tables
-from registry_tools.errors import WordsFault, shown
-from registry_tools.office import labels, past
-from registry_tools.office.labels import ACCOUNT, HOLDER, USER, Label, Labels
+from registry_tools.office.labels import ACCOUNT, HOLDER, USER, Labels
 from registry_tools.showing import Cell
-from registry_tools.tables import Columns
 from registry_tools.texts.in_words import ACTS, OF_ACCOUNTS
 
 # What the numbers of a column name.
 KIND_OF: Mapping[str, str] = {
     "account": ACCOUNT, "from": ACCOUNT, "to": ACCOUNT, "holder": HOLDER, "proposer": USER, "approver": USER,
 }  # fmt: skip
-NUMBER = re.compile("-?[0-9]+", re.ASCII)
-
-
-def known_to(said: argparse.Namespace) -> Labels:
-    """The names of the folder that the words name; of paths there are none."""
-    if said.pairs:
-        return Labels()
-    # (it is read once)
-    said.opened = past.office_of(said)
-    return labels.of_folder(said.opened.path)
-
-
-def number_of(option: str, word: str | None, names: Labels, kind: str = ACCOUNT) -> int | None:
-    """The number that a word says, or that of what it names; None, if there is no word."""
-    if word is None:
-        return None
-    if NUMBER.fullmatch(word):
-        if int(word[:12]) > tables.MOST_NUMBER:
-            raise WordsFault(f"{option}: found {shown(word)}; expected a number up to {tables.MOST_NUMBER}")
-        return int(word)
-    if not names.named:
-        raise WordsFault(f"{option}: found {shown(word)}; expected a number: there are no names")
-    return int(names.one(word, kind).number)
-
-
-def label_of(word: str, said: argparse.Namespace, names: Labels) -> Label:
-    """What is called so."""
-    if said.pairs:
-        raise WordsFault("--name is for a folder: paths have no names")
-    return names.one(word)
-
-
-def rows_shown(
-    said: argparse.Namespace, columns: Columns, rows: Sequence[Sequence[Cell]], names: Labels
-) -> Sequence[Sequence[Cell]]:
-    """Rows with names beside the numbers: for people. Programs get the numbers alone."""
-    return rows if showing.is_for_programs(said) else with_names(columns.names, rows, names)
 
 
 def with_names(columns: Sequence[str], rows: Sequence[Sequence[Cell]], names: Labels) -> Sequence[Sequence[Cell]]:

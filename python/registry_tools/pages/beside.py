@@ -36,8 +36,16 @@ def item_in_words(item: Item) -> str:
         return in_words.words_of(fields[4], fields[5:])
     if item.part.kind == handed.WORK:
         return f"working day {fields[1]}"
-    more = f" and {len(item.rows) - 1} rows" if len(item.rows) > 1 else ""
-    return f"account {fields[1]}, as a whole{more}" if item.part.kind == handed.CHANGES else edit_in_words(item.rows[0])
+    return change_in_words(item.rows)
+
+
+def change_in_words(rows: list[str]) -> str:
+    """A change by hand, of its rows: an account as a whole, or a difference."""
+    fields = rows[0].split(",")
+    if fields[0] != edits.ACCOUNT or fields[2] in (edits.OPEN, edits.PUT, edits.ADD, edits.DROP):
+        return edit_in_words(rows[0])
+    more = f" and {len(rows) - 1} rows" if len(rows) > 1 else ""
+    return f"account {fields[1]}, as a whole{more}"
 
 
 def edit_in_words(row: str) -> str:

@@ -7,7 +7,7 @@ from dataclasses import dataclass
 
 from registry_tools.calendars.deadlines import DueDates
 from registry_tools.errors import WordsFault
-from registry_tools.office.folder import Office
+from registry_tools.office.office import Office
 from registry_tools.office.labels import Labels
 from registry_tools.office.waits import waiting_behind
 from registry_tools.pages import letter
@@ -91,7 +91,7 @@ def lead_of(days: list[DayOfMonth], office: Office | None, waiting: list[Waiting
     if office:
         waits = f", waiting {grouped(len(waiting))}"
         span = days[0].date, days[-1].date
-        back = sum(own.what == UNDONE and span[0] <= own.date <= span[1] for own in office.events.all)
+        back = sum(own.what == UNDONE and span[0] <= own.date <= span[1] for own in office.store.events.all)
     taken = f" Closings taken back: {back}." if back else ""
     return f"Days: {len(days)}. Done {grouped(done)}, refused {grouped(refused)}{waits}.{taken}"
 

@@ -1,39 +1,22 @@
-"""Makes HTML pages of a settled day, for a browser without a server: the day, compliance, accounts, a page for each
-account, and the rules.
-
-FOLDER is made, and must not be there before, except if it is empty. Begin with FOLDER/index.html.
-
-  index.html       the day: where to find an account by its number, counts, totals, refusals with what to do, what waits
-                   for its due day, what people changed by hand, what was done, the plan
-  compliance.html  how each operator and aircraft operator stands for a year, those first of whom most is missing
-  accounts.html    all accounts
-  accounts/N.html  a statement of account N to print or send, with nothing on it that belongs to others
-  workers.html     who executed what; only with --lanes
-  rules.html       docs/RULES.md, to whose checks the refusals lead; and formats.html
-
-A check that refused more than 100 instructions has a page of its own, and so has what waits and what was done, if it is
-more. A table of more than 1,000 rows goes on in further pages, such as compliance-2.html, except on the page of an
-account. REPORT must be that of DAY. Of a day of a folder (--day DATE), what waits since earlier days and what people
-changed is known, and by whom and why.
-"""
-import argparse
+"""HTML pages of a settled day, for a browser without a server: the day, compliance, accounts, a page for each account,
+and the rules. `./day page --help` tells what is on them."""
 import functools
 import gc
 import multiprocessing
 import os
 import signal
-import sys
-from typing import Collection, Iterator
+from collections.abc import Collection, Iterator, Sequence
+from dataclasses import dataclass, field
+from pathlib import Path
 
 from registry_tools.errors import FileFault, WordsFault
-from registry_tools.office import labels
-from registry_tools.options import add_pair
+from registry_tools.office.labels import Labels
 from registry_tools.output import NewFolder
 from registry_tools.pages.account import account_page
 from registry_tools.pages.compliance import account_list_pages, compliance_pages
 from registry_tools.pages.html import Frame
 from registry_tools.pages.rulebook import FORMATS, RULES, Rulebook, document_page
-from registry_tools.pages.settled import ByHand, Settled, by_hand_before, count_of
+from registry_tools.pages.settled import ByHand, Settled, by_hand_before
 from registry_tools.pages.statement import DayOfAccounts
 from registry_tools.pages.summary import DAY, summary_pages
 from registry_tools.pages.workers import workers_page
@@ -43,7 +26,6 @@ from registry_tools.texts.follows import read_pair
 from registry_tools.texts.pending import read_pending, waiting_before
 from registry_tools.texts.report import Report
 
-EXAMPLE = "./day page examples/week/monday.csv examples/week/monday-report.csv out/pages --only 100210 100377"
 FILES = {"day": DAY, "compliance": "compliance.html", "accounts": "accounts.html", "workers": "workers.html"}
 NAMES = {"day": "The day", "compliance": "Compliance", "accounts": "Accounts", "workers": "Workers"}
 MOST_PROCESSES, SHARE = 4, 500
@@ -54,32 +36,29 @@ MAKING = "making the pages of accounts"
 SHARED = []
 
 
-def add_words(parser: argparse.ArgumentParser) -> None:
-    """Tells a parser the words of the command."""
-    add_pair(parser)
-    parser.add_argument("folder", metavar="FOLDER", help="the folder that is made")
-    only = "make pages of these accounts only, in place of all"
-    parser.add_argument("--only", type=int, nargs="+", metavar="ACCOUNT", help=only)
-    year = "the year of compliance.html; else the last one of the current period that is over"
-    parser.add_argument("--year", type=int, metavar="Y", help=year)
-    history = "all days before DAY from one on, each with its report: the statements begin with them"
-    parser.add_argument("--history", nargs="+", default=[], metavar="DAY REPORT", help=history)
-    waits = "the pending file of ./day next: what waits since earlier days is shown too"
-    parser.add_argument("--pending", metavar="FILE", help=waits)
-    before = "the day before: what people changed between is shown"
-    parser.add_argument("--before", nargs=2, metavar=("DAY", "REPORT"), help=before)
-    who = "the folder of the day in a folder of days: who changed something, and why"
-    parser.add_argument("--by-hand", metavar="FOLDER", help=who)
-    lanes = "who executed what, as `bench_workers lanes WORKERS` writes it"
-    parser.add_argument("--lanes", metavar="FILE", help=lanes)
-    labels.add_words(parser)
+@dataclass(frozen=True)
+class Page:
+    """What the pages are made of: the day with its report; all days before it that stand on statements, each with its
+    report; the day right before it; what waits since earlier days; and who changed what by hand, and why (at, who, why,
+    change). And which accounts have a page, in place of all, the year of compliance, and what the workers did."""
+
+    day: str
+    report: str
+    history: Sequence[tuple[str, str]] = ()
+    before: tuple[str, str] | None = None
+    pending: str | None = None
+    told: list[list[str]] = field(default_factory=list)
+    only: tuple[int, ...] | None = None
+    year: int | None = None
+    lanes: str | None = None
+    names: Labels = field(default_factory=Labels)
+    # How the pages name the day and its report.
+    note: str = ""
 
 
-def read_history(paths: list[str], day: DayText) -> list[tuple[DayText, Report]]:
+def read_history(history: Sequence[tuple[str, str]], day: DayText) -> list[tuple[DayText, Report]]:
     """The days before the settled one, each with its report."""
-    if len(paths) % 2:
-        raise WordsFault("--history takes pairs: a day and its report, and the next ones behind them")
-    pairs = [read_pair(*pair) for pair in zip(paths[::2], paths[1::2])]
+    pairs = [read_pair(*pair) for pair in history]
     for (before, report), after in zip(pairs, [*(later for later, _ in pairs[1:]), day]):
         must_be_before(before, report, after)
     return pairs
@@ -96,33 +75,33 @@ def must_be_before(before: DayText, report: Report, after: DayText) -> None:
         raise FileFault(after.path, line, "NEXT", after.head.next_record, follows)
 
 
-def shown_accounts(words: argparse.Namespace, report: Report) -> Collection[int]:
+def shown_accounts(asked: Page, report: Report) -> Collection[int]:
     """The accounts that have a page."""
-    if words.only is None:
+    if asked.only is None:
         return report.book.keys()
-    for number in words.only:
+    for number in asked.only:
         if number not in report.book:
-            raise WordsFault(f"--only {number}: {words.report} has no such account")
-    return {*words.only}
+            raise WordsFault(f"--only {number}: {asked.report} has no such account")
+    return {*asked.only}
 
 
-def changed_by_hand(words: argparse.Namespace, day: DayText, history: list[tuple[DayText, Report]]) -> ByHand:
+def changed_by_hand(asked: Page, day: DayText, history: list[tuple[DayText, Report]]) -> ByHand:
     """What people changed before the day, if the day before is named."""
     before = history[-1] if history else None
-    if words.before:
-        before = read_pair(*words.before)
+    if asked.before:
+        before = read_pair(*asked.before)
         must_be_before(*before, day)
-    return by_hand_before(before, day, words.by_hand)
+    return by_hand_before(before, day, asked.told)
 
 
-def pages(words: argparse.Namespace, settled: Settled, by_hand: ByHand) -> Iterator[tuple[str, str]]:
+def pages(asked: Page, settled: Settled, by_hand: ByHand) -> Iterator[tuple[str, str]]:
     """The file and the text of each page."""
-    note = f"Made by ./day page of {words.day} and {words.report}."
+    note = asked.note or f"Made by ./day page of {asked.day} and {asked.report}."
     yield from summary_pages(settled, FILES, by_hand, note)
-    yield from compliance_pages(settled, FILES, words.year, note)
+    yield from compliance_pages(settled, FILES, asked.year, note)
     yield from account_list_pages(settled, FILES, note)
-    if words.lanes:
-        yield FILES["workers"], workers_page(settled, FILES, words.lanes, note)
+    if asked.lanes:
+        yield FILES["workers"], workers_page(settled, FILES, asked.lanes, note)
     for page in (RULES, FORMATS):
         yield page, document_page(settled.frame, page)
 
@@ -167,23 +146,19 @@ def write_shared(numbers: list[int]) -> int:
     return SHARED[0](numbers)
 
 
-def run(words: argparse.Namespace) -> int:
-    """Runs the command, and answers the exit status."""
-    with NewFolder(words.folder) as folder:
-        day, report = read_pair(words.day, words.report)
-        history = read_history(words.history, day)
+def make(path: str | Path, asked: Page) -> int:
+    """Makes the pages in a folder that is not there yet, or empty, and answers how many there are."""
+    with NewFolder(path) as folder:
+        day, report = read_pair(asked.day, asked.report)
+        history = read_history(asked.history, day)
         days = [DayOfAccounts(*pair) for pair in [*history, (day, report)]]
-        sections = [(FILES[name], NAMES[name]) for name in FILES if name != "workers" or words.lanes]
+        sections = [(FILES[name], NAMES[name]) for name in FILES if name != "workers" or asked.lanes]
         frame = Frame([*sections, (RULES, "Rules"), (FORMATS, "Texts")])
-        earlier = waiting_before(read_pending(words.pending), day, report) if words.pending else None
-        shown = shown_accounts(words, report)
-        settled = Settled(day, report, Rulebook(), frame, shown, earlier, labels.named_by(words))
+        earlier = waiting_before(read_pending(asked.pending), day, report) if asked.pending else None
+        settled = Settled(day, report, Rulebook(), frame, shown_accounts(asked, report), earlier, asked.names)
         count = 0
-        for name, text in pages(words, settled, changed_by_hand(words, day, history)):
+        for name, text in pages(asked, settled, changed_by_hand(asked, day, history)):
             folder.write(name, text)
             count += 1
         folder.make("accounts")
-        count += write_accounts(folder, settled, days)
-    progress.clear()
-    print(f"{count_of(count, 'page', 'pages')}: begin with {folder.path / FILES['day']}", file=sys.stderr)
-    return 0
+        return count + write_accounts(folder, settled, days)

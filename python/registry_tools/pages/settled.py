@@ -6,10 +6,13 @@ from pathlib import Path
 from typing import Any, Callable, Collection, Iterable, Iterator, Sequence, TypeVar
 
 from registry_tools.calendars.due_days import NOT_DUE, due_day_after, head_after
+from registry_tools.errors import shown
+from registry_tools.office.handed import Item
 from registry_tools.office.labels import ACCOUNT, Labels
 from registry_tools.pages import beside
 from registry_tools.pages.html import Cells, Frame, Markup, Table, joined, link, markup, paragraph, tag, words_in_cell
 from registry_tools.pages.rulebook import Rulebook
+from registry_tools.questions.unpack import BY_HAND, TOLD
 from registry_tools.second import rules
 from registry_tools.texts import changes
 from registry_tools.texts.changes import HandChange
@@ -18,6 +21,7 @@ from registry_tools.texts.in_words import grouped, instruction_in_words
 from registry_tools.texts.outdated import Entries
 from registry_tools.texts.pending import Waiting
 from registry_tools.texts.report import LogRow, Report
+from registry_tools.texts.rows import rows_of
 
 Row = TypeVar("Row")
 # What becomes of an instruction.
@@ -186,18 +190,25 @@ class ByHand:
     told: list[list[str]] = dataclasses.field(default_factory=list)
 
 
-def by_hand_before(before: tuple[DayText, Report] | None, day: DayText, folder: str | None) -> ByHand:
-    """The changes between two days; `folder` is that of the day in a folder of days, which says who made them."""
+def by_hand_before(before: tuple[DayText, Report] | None, day: DayText, told: list[list[str]]) -> ByHand:
+    """The changes between two days; `told` says who made them."""
     rows = [*changes.between(before[0].heading, before[1], day)] if before else None
-    return ByHand(rows, told_in(Path(folder)) if folder else [])
+    return ByHand(rows, told)
 
 
-def told_in(folder: Path) -> list[list[str]]:
-    """Who changed what and why, by the folder of a day."""
-    from registry_tools.office.changes import listing  # (most pages are made without a folder)
+def told_by(items: Iterable[Item]) -> list[list[str]]:
+    """Who changed what and why, of what was handed in."""
+    return [[item.part.at, item.part.who, item.part.name, beside.change_in_words(item.rows)] for item in items]
 
-    items = listing.items_of_day(folder)
-    return [[item.part.at, item.part.who, item.part.name, beside.item_in_words(item)] for item in items]
+
+def told_in(folder: str) -> list[list[str]]:
+    """The same, by the file that `./day unpack` puts beside the texts of a day. Raises FileFault if it is none."""
+    source = rows_of(Path(folder) / BY_HAND)
+    told = [source.fields(place) for place in range(len(source))]
+    for place, fields in enumerate(told):
+        if len(fields) != len(TOLD) or (not place and fields != [*TOLD]):
+            raise source.fault(place, "row", shown(",".join(fields)), f"{','.join(TOLD)}, as ./day unpack writes it")
+    return [[at, who, why, beside.change_in_words(change.split("\n"))] for at, who, _, _, why, change in told[1:]]
 
 
 def by_hand_parts(settled: Settled, by_hand: ByHand) -> list[Markup]:

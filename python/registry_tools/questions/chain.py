@@ -1,32 +1,12 @@
-"""Looks whether days follow from each other: each report from its day, and each day from the report before it.
-
-  each pair      the report is what follows from the day, as docs/FORMATS.md says it of a pair
-  the next day   its date is later, its NEXT is that of the report, its accounts are those of the report; each
-                 difference is shown. One that somebody may make by hand, since no act makes it, is called `by hand`,
-                 and so is each difference of the first rows. One of an account that stands so in a file of --changes,
-                 as it was given to ./day next, does not count
-  what waits     what was refused as NotDue comes on its due day, with the same fields
-  the rules      periods are kept, and only added to; calendars agree where they overlap, and none of them brings
-                 back a window for a reversal that was over
-  allowances     of each kind, what there is at the end is what there was at the beginning, and what was created,
-                 deleted, reversed and changed by hand
-
-With --settle, PROGRAM settles each day again by `PROGRAM settle`, or without PROGRAM the library does, if it was built:
-the report must have the same bytes. Of many equal differences the first three are shown, and the others counted.
-
-exit status: 0 if nothing was found, else 1.
-"""
-import argparse
+"""Whether days follow from each other: each report from its day, and each day from the report before it. `./day chain
+--help` tells what is looked at."""
 import itertools
 
 from registry_tools.calendars.due_days import Waits
 from registry_tools.calendars.working_days import Calendars
-from registry_tools.engine import NotSettled, Settler, settler_of
-from registry_tools.errors import FOUND, FileFault, WordsFault, of_file, shown
+from registry_tools.engine import NotSettled, Settler
+from registry_tools.errors import FileFault, of_file, shown
 from registry_tools.findings import Findings
-from registry_tools.notes import counted
-from registry_tools.options import add_engine, add_to
-from registry_tools.output import write_answer
 from registry_tools.progress import progress
 from registry_tools.questions.allowances import Balance, count_changes, look_at_allowances
 from registry_tools.second import rules
@@ -38,22 +18,6 @@ from registry_tools.texts.follows import differences, line_behind
 from registry_tools.texts.headings import heading_differences, lost_period
 from registry_tools.texts.report import Report, read_report
 from registry_tools.texts.rows import bytes_of
-
-EXAMPLE = (
-    "./day chain examples/week/monday.csv examples/week/monday-report.csv examples/week/tuesday.csv "
-    "examples/week/tuesday-report.csv"
-)
-
-
-def add_words(parser: argparse.ArgumentParser) -> None:
-    """Tells a parser the words of the command."""
-    pairs = "day texts, each with its report behind it, in order"
-    parser.add_argument("files", metavar="DAY REPORT", nargs="+", help=pairs)
-    add_engine(parser, "--settle", "settle each day again: by a program, such as ./run, or else the library")
-    changes = "files that were given to ./day next as changes"
-    parser.add_argument("--changes", metavar="FILE", nargs="+", default=[], help=changes)
-    add_to(parser)
-
 
 # A day and its report.
 
@@ -212,22 +176,3 @@ class Chain:
         """All that is told: what was found, changes by hand, what waits, and the balances."""
         words = (balance.in_words(kind, self.end[kind]) for kind, balance in self.balances.items())
         return [*map(str, self.found.lines), *self.changes.in_words(), *self.waits.in_words(), *words]
-
-
-def run(words: argparse.Namespace) -> int:
-    """Runs the command, and answers the exit status."""
-    if len(words.files) % 2:
-        program = f"; {words.settle} is the program of --settle" if isinstance(words.settle, str) else ""
-        raise WordsFault(f"{len(words.files)} files: each DAY needs its REPORT behind it{program}")
-    pairs = [*zip(words.files[::2], words.files[1::2])]
-    settler = None if words.settle is None else settler_of(words.settle, "--settle")
-    chain = Chain(Changes(words.changes), settler)
-    for pair in pairs:
-        chain.follow(*pair)
-    found = chain.found
-    agreed = f", {found.agreed} by hand as files of changes say" if words.changes else ""
-    faults = counted(found.faults, "difference", "differences")
-    by_hand = counted(found.by_hand, "change by hand", "changes by hand")
-    last = f"{counted(len(pairs), 'day', 'days')}: {faults}, {by_hand}{agreed}"
-    write_answer("\n".join([*chain.lines(), last, ""]), words.to)
-    return FOUND if found.faults or found.by_hand else 0

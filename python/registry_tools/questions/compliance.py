@@ -1,50 +1,22 @@
-"""Shows which operators and aircraft operators are compliant for a year: a row each, and counts at the end.
-
-  holder, status  of the account
-  surrendered     what it has surrendered for the period of the year, on or before the day
-  emissions       what was entered of this period, up to and including the year
-  correction      its correction factor of the period
-  determined      the figure as it was last determined; empty if it was not
-  figure          the figure as it would be determined now; empty if emissions are missing
-  verdict         one of these:
-    compliant          the determined figure is 0 or more, and so is the one of now
-    missing N          N allowances are missing now
-    emissions missing  of the years that are named there is no entry, so there is no figure
-    not assessed       no figure of the year was determined
-    surrendered since  the determined figure is below 0, and as much was surrendered since, also for later years: assess
-                       the year again
-    outdated           emissions up to the year, or the correction factor, changed after the figure was determined:
-                       assess the year again
-    excluded           no figure is determined for an excluded account
-
-Without --year it is the last year of the current period that is over on the day. REPORT must be that of DAY.
-
-exit status: 0 if each account that is open is compliant, else 1. An excluded or closed account counts as it is; a
-blocked one counts as an open one.
-"""
-import argparse
+"""Which operators and aircraft operators are compliant for a year: a row each, and counts at the end. `./day compliance
+--help` tells the columns and the verdicts."""
 import bisect
 import operator
-import sys
 from collections.abc import Iterable, Iterator, Sequence
 from dataclasses import dataclass
 
-from registry_tools import showing, tables
+from registry_tools import tables
 from registry_tools.engine import confirm_figures
-from registry_tools.errors import FOUND, WordsFault
-from registry_tools.office import labels
+from registry_tools.errors import WordsFault
 from registry_tools.office.labels import Labels
-from registry_tools.options import add_pair
 from registry_tools.progress import progress
 from registry_tools.second import rules
 from registry_tools.showing import Cell
 from registry_tools.texts.day_text import DayText
 from registry_tools.texts.in_words import grouped, table_lines
 from registry_tools.texts.outdated import Entries, was_once_right
-from registry_tools.texts.follows import read_pair
 from registry_tools.texts.report import Report
 
-EXAMPLE = "./day compliance examples/week/monday.csv examples/week/monday-report.csv --year 2024"
 COLUMNS = tables.COLUMNS["compliance"]
 # Where the accounts of a text begin.
 AT = operator.attrgetter("index")
@@ -88,14 +60,6 @@ class Standing:
         if self.verdict == NO_EMISSIONS:
             return f"{NO_EMISSIONS}: {' '.join(map(str, self.years_without_emissions))}"
         return self.verdict
-
-
-def add_words(parser: argparse.ArgumentParser) -> None:
-    """Tells a parser the words of the command."""
-    add_pair(parser)
-    parser.add_argument("--year", type=int, metavar="Y", help="the year; its period is the one that has it")
-    labels.add_words(parser)
-    showing.add_words(parser)
 
 
 def last_year_over(head: rules.Day) -> int:
@@ -220,13 +184,6 @@ def as_table(day: DayText, rows: Sequence[Standing], year: int, names: Labels) -
     return "\n".join([title, "", *lines, "", *counts(rows), ""])
 
 
-def run(words: argparse.Namespace) -> int:
-    """Runs the command, and answers the exit status."""
-    day, report = read_pair(words.day, words.report)
-    year = last_year_over(day.head) if words.year is None else words.year
-    rows = [*standings(day, report, year)]
-    showing.show_or_tell(words, COLUMNS, map(cells, rows), lambda: as_table(day, rows, year, labels.named_by(words)))
-    if showing.is_for_programs(words):
-        print("\n".join(counts(rows)), file=sys.stderr)
-    # (on a closed account no act is done)
-    return FOUND if any(own.verdict not in SETTLED and own.account.status != "closed" for own in rows) else 0
+def is_open(standing: Standing) -> bool:
+    """Whether somebody has to do something about an account. (On a closed account no act is done.)"""
+    return standing.verdict not in SETTLED and standing.account.status != "closed"

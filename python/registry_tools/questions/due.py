@@ -1,46 +1,27 @@
-"""Shows what is due from the last settled day on, up to DATE, and what is overdue, in the order of the dates:
-
-  deadline          by when an operator has to have surrendered what is missing for a year, or by when its emissions
-                    of a year have to be entered
-  overdue           a deadline that is over, if the operator still has not done that
-  reversal ends     the last day on which a surrender or a deletion may still be reversed
-  list takes effect when an account that was added to a trusted list may be used
-  waiting           when an instruction that waits is due
-  working day       one that is over and has no settlement
-  calendar ends     the last working day that the text knows
-
-Deadlines are those of office.ini; no rule of a day text tells one. Without --until it shows as many days ahead as
-office.ini says under [due] lead; without that, 30. An operator whose surrendered allowances suffice is not shown; one
-whose emissions lack behind their deadline is shown with that for surrenders.
-
-People are shown the first working days that are over, and how many more; programs all of them.
---ics writes the same as a calendar (iCalendar), which other programs take in.
-"""
-import argparse
+"""What is due from the last settled day on, and what is overdue, in the order of the dates. `./day due --help` tells
+what that is."""
 import contextlib
 import datetime
 from collections import Counter
 from typing import Iterator, NamedTuple
 
-from registry_tools import showing, streams, tables
+from registry_tools import streams, tables
 from registry_tools.calendars.deadlines import DueDates
 from registry_tools.calendars.due_days import head_after
 from registry_tools.calendars.ics import calendar_of
 from registry_tools.errors import FileFault
 from registry_tools.notes import MOST_TOLD, counted
-from registry_tools.office import composing, folder, labels, naming, past, words
-from registry_tools.office.folder import Office
+from registry_tools.office import composing, labels
+from registry_tools.office.office import Office
 from registry_tools.office.labels import Labels
 from registry_tools.office.next import about_date
 from registry_tools.office.waits import waits_of
-from registry_tools.output import NewFile
 from registry_tools.questions.compliance import NO_EMISSIONS, SETTLED, Standing, standings
 from registry_tools.showing import Cell
 from registry_tools.texts.day_text import DayText
 from registry_tools.texts.in_words import grouped, instruction_in_words
 from registry_tools.texts.report import Report
 
-EXAMPLE = "./day due --until 2025-10-31 --office out/office"
 COLUMNS = tables.COLUMNS["due"]
 DEADLINE, OVERDUE, REVERSAL, LIST = "deadline", "overdue", "reversal ends", "list takes effect"
 WAITING, MISSED, CALENDAR = "waiting", "working day", "calendar ends"
@@ -61,28 +42,6 @@ class Due(NamedTuple):
     def cells(self) -> list[Cell]:
         """The columns."""
         return [str(self.date), self.what, self.account, self.record, self.text]
-
-
-def add_words(parser: argparse.ArgumentParser) -> None:
-    """Tells a parser the words of the command."""
-    parser.add_argument("--until", metavar="DATE", help="the last day that is shown")
-    parser.add_argument("--ics", metavar="FILE", help="write a calendar to this file")
-    words.add_office(parser)
-    showing.add_words(parser)
-
-
-def run(said: argparse.Namespace) -> int:
-    """Runs the command, and answers the exit status."""
-    office = folder.opened(said.office)
-    until = past.date_or("--until", said.until, last_shown(office))
-    found = due_until(office, until)
-    if said.ics is not None:
-        NewFile(said.ics, as_calendar(found, until)).keep()
-        print(f"{said.ics}: entries {len(found)}")
-        return 0
-    rows = [own.cells() for own in (found if showing.is_for_programs(said) else folded(found))]
-    showing.show(said, COLUMNS, naming.rows_shown(said, COLUMNS, rows, labels.of_folder(office.path)))
-    return 0
 
 
 def last_shown(office: Office) -> datetime.date:
@@ -107,7 +66,7 @@ def folded(found: list[Due]) -> list[Due]:
 def due_until(office: Office, until: datetime.date) -> list[Due]:
     """All that is due from the last settled day up to a date, by rising date."""
     day, report = composing.last_pair(office)
-    names = labels.of_folder(office.path)
+    names = labels.of_office(office)
     known = deadlines(office.settings.due, day, report, names), of_rows(day, report, names), waiting(office, names)
     every = (own for found in (*known, of_calendar(office)) for own in found if own.date <= until)
     return sorted(every, key=lambda own: (own.date, own.what, own.account or 0))
@@ -200,10 +159,10 @@ def missed_days(office: Office) -> list[datetime.date]:
 def doubts_of_last(office: Office) -> list[str]:
     """What is to be known of the date of the last day: that it is no working day, and which working days before it have
     no text. None, if its text cannot be read, which is told as a fault."""
-    dates = [event.date for event in office.journal.filed()[-2:]]
+    dates = [event.date for event in office.store.events.days[-2:]]
     with contextlib.suppress(FileFault):
         if dates:
-            calendar = composing.filed_calendar(office, office.journal.filed()[-1])
+            calendar = composing.filed_calendar(office, office.store.events.days[-1])
             return [*about_date(dates[0] if len(dates) > 1 else None, dates[-1], calendar)]
     return []
 

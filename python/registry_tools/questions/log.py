@@ -1,60 +1,31 @@
-"""Writes the logs of reports as one table: CSV with a header, the reports one after another, a row for each
-instruction, and for a distribution a row for each account that receives.
-
-  record, date              the record number, and the settlement day
-  proposed, proposer, approver, act
-  from                      the account that gives, or the account of the act; empty for a creation
-  to                        the account that receives; of a trusted list, the other account
-  kind                      the kind of allowance
-  amount                    how many allowances; the tonnes of an entry of emissions
-  year                      of an entry of emissions, or of an assessment
-  outcome, code, name       done, or refused with the code and the name of the check
-  figure                    what an assessment determined
-  due                       of an addition that was done, the day on which the entry takes effect; with --day, of each
-                            other instruction whose accounts are there its due day, and of one that waits the day on
-                            which ./day next enters it
-  advice                    what to do after a refusal
-  status                    the new status, of a change of a status
-  record_named              the record number that a reversal names
-
-Each column has values of one kind: where an act has no such thing, the field is empty, and null in JSON. With
---account, only the rows in which this account is FROM or TO. The reports stand in the order of their record numbers,
-each once.
-"""
-import argparse
+"""The logs of reports as one table: a row for each instruction, and for a distribution a row for each account that
+receives. `./day log --help` tells the columns."""
 import datetime
+from dataclasses import dataclass
 from typing import Any, Iterator
 
-from registry_tools import showing, tables
+from registry_tools import tables
 from registry_tools.calendars.due_days import NOT_DUE, due_day_after, head_after
 from registry_tools.errors import WordsFault
-from registry_tools.options import is_day_named
-from registry_tools.output import write_answer
 from registry_tools.progress import progress
 from registry_tools.second import rules
 from registry_tools.showing import Cell
 from registry_tools.texts.accounts import Accounts
 from registry_tools.texts.checks import advice_for
-from registry_tools.texts.day_text import DayText, read_day
+from registry_tools.texts.day_text import DayText
 from registry_tools.texts.in_words import act_columns
 from registry_tools.texts.follows import must_follow
-from registry_tools.texts.report import Report, read_report
+from registry_tools.texts.report import Report
 
-EXAMPLE = "./day log examples/week/monday-report.csv examples/week/tuesday-report.csv --refused > out/refused.csv"
 COLUMNS = tables.COLUMNS["log"]
 
 
-def add_words(parser: argparse.ArgumentParser) -> None:
-    """Tells a parser the words of the command."""
-    is_named = is_day_named(parser)
-    if not is_named:
-        parser.add_argument("reports", metavar="REPORT", nargs="+", help="a report")
-    parser.add_argument("--refused", action="store_true", help="only what was refused")
-    parser.add_argument("--account", type=int, metavar="N", help="only rows with this account")
-    texts_of = "the day texts of reports, for due days; or dates of days of a folder, in place of reports"
-    if not is_named:
-        parser.add_argument("--day", dest="days", metavar="DAY", nargs="+", default=[], help=texts_of)
-    showing.add_words(parser)
+@dataclass(frozen=True)
+class Log:
+    """Which rows are wanted: those of an account, or all; and only those that were refused, or all."""
+
+    account: int | None = None
+    is_refused: bool = False
 
 
 # The cells of a row, in the order of the columns.
@@ -104,11 +75,11 @@ def report_date(report: Report) -> datetime.date | None:
     return report.log[0].date if report.log else None
 
 
-def is_wanted(row: LogCells, words: argparse.Namespace) -> bool:
-    """Whether a row is one that the words ask for."""
+def is_wanted(row: LogCells, asked: Log) -> bool:
+    """Whether a row is wanted."""
     of = dict(zip(COLUMNS.names, row))
-    is_of_account = words.account is None or words.account in (of["from"], of["to"])
-    return is_of_account and (not words.refused or of["outcome"] == "refused")
+    is_of_account = asked.account is None or asked.account in (of["from"], of["to"])
+    return is_of_account and (not asked.is_refused or of["outcome"] == "refused")
 
 
 def look_for_account(reports: list[Report], number: int | None) -> None:
@@ -134,17 +105,16 @@ def look_at_order(reports: list[Report]) -> None:
             raise WordsFault(f"{later.path} is an earlier report, or one of the same day: {earlier}")
 
 
-def run(words: argparse.Namespace) -> int:
-    """Runs the command, and answers the exit status."""
-    reports, days = [read_report(path) for path in words.reports], [read_day(path) for path in words.days]
+def log(reports: list[Report], days: list[DayText], asked: Log = Log()) -> list[list[Cell]]:
+    """The rows of reports as one table. Raises WordsFault if they do not stand in order, if no report is that of one of
+    the days, or if nothing has the account."""
     look_at_order(reports)
     for day in days:
         if day.instructions and day.head.date not in map(report_date, reports):
             raise WordsFault(f"no report is of {day.head.date}, the day of {day.path}")
-    rows = [row for report in reports for row in log_rows(report, due_days_of(report, days)) if is_wanted(row, words)]
-    look_for_account(reports, words.account)
-    write_answer(showing.for_programs(words, COLUMNS.names, [cells_of(cells) for cells in rows]), words.to)
-    return 0
+    rows = [row for report in reports for row in log_rows(report, due_days_of(report, days)) if is_wanted(row, asked)]
+    look_for_account(reports, asked.account)
+    return [*map(cells_of, rows)]
 
 
 def cells_of(row: LogCells) -> list[Cell]:

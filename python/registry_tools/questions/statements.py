@@ -1,44 +1,15 @@
-"""Writes the statement of every account over a day, in one pass: each in a file ACCOUNT.csv of FOLDER.
-
-A statement is byte for byte what `registry statement ACCOUNT` writes of DAY. With --own it has only what belongs to the
-account, so that it can be sent to its holder:
-
-  statement,DATE,NO,KIND,HOLDER,STATUS   stands before its first row; STATUS is that after the day
-  log rows                               have the account's own holdings at their end, and no others; PROPOSER and
-                                         APPROVER only if they represent the account; of a distribution to several
-                                         accounts, an account that receives finds its own amount alone. An instruction
-                                         of the account that was refused as UnknownAccount stands here too
-  refused,RECORD,DATE                    an instruction of another account that names this one was refused. It stands
-                                         here only if its proposer represents one of the two accounts
-
-FOLDER must not be there yet, or be empty. What it gets appears only when all of it is written. REPORT must be what
-follows from DAY.
-"""
-import argparse
+"""The statements of accounts over a day, in one pass; and what of them can be sent to a holder. `./day statements
+--help` tells their rows."""
 import datetime
+from pathlib import Path
 
 from registry_tools.errors import WordsFault
-from registry_tools.options import add_pair
 from registry_tools.output import NewFolder
 from registry_tools.progress import progress
 from registry_tools.texts.accounts import Block
 from registry_tools.texts.day_text import DayText
 from registry_tools.texts.own import own_log, own_row, users_of
-from registry_tools.texts.follows import read_pair
 from registry_tools.texts.report import LogRow, Report
-
-EXAMPLE = (
-    "./day statements examples/week/monday.csv examples/week/monday-report.csv out/statements --own "
-    "--account 100210 300118"
-)
-
-
-def add_words(parser: argparse.ArgumentParser) -> None:
-    """Tells a parser the words of the command."""
-    add_pair(parser)
-    parser.add_argument("folder", metavar="FOLDER", help="the folder that is made")
-    parser.add_argument("--own", action="store_true", help="leave out what belongs to others")
-    parser.add_argument("--account", type=int, nargs="+", metavar="N", help="only these accounts")
 
 
 def log_by_account(report: Report) -> dict[int, list[LogRow]]:
@@ -86,15 +57,14 @@ def statement_over(days: list[tuple[DayText, Report]], number: int, rows: list[s
     return "\n".join([start, edge("opening", first.book[number]), *rows, edge("closing", after), "end", ""])
 
 
-def run(words: argparse.Namespace) -> int:
-    """Runs the command, and answers the exit status."""
-    day, report = read_pair(words.day, words.report)
-    numbers = [*dict.fromkeys(words.account or day.book)]
+def make(day: DayText, report: Report, folder: str | Path, accounts: list[int] | None, is_own: bool) -> None:
+    """Writes the statements of these accounts, or of all, into a folder that is not there yet. Raises WordsFault if
+    there is no such account."""
+    numbers = [*dict.fromkeys(accounts or day.book)]
     for number in numbers:
         if number not in day.book:
             raise WordsFault(f"there is no account {number} in {day.path}")
-    rows = rows_by_account(day, report, words.own)
-    with NewFolder(words.folder) as folder:
+    rows = rows_by_account(day, report, is_own)
+    with NewFolder(folder) as made:
         for number in progress.over(numbers, "writing the statements", len(numbers)):
-            folder.write(f"{number}.csv", statement_of(day, report, number, rows.get(number, []), words.own))
-    return 0
+            made.write(f"{number}.csv", statement_of(day, report, number, rows.get(number, []), is_own))

@@ -1,34 +1,24 @@
-"""Works a day out once more by the rules in plain Python (tools/rules.py), without the program, and compares the report
-with it: the log, the accounts and the totals. Says the first row that differs, and what it has to be. With --program,
-PROGRAM must write the same bytes too, or without PROGRAM the library, if it was built.
-
-With --csv or --json, one row: whether it is so, and else where it differs. Of PROGRAM, `found` says all.
-
-exit status: 0 if the report is what the rules make of the day, 1 if a row differs.
-"""
-import argparse
+"""A day worked out once more by the rules in plain Python (tools/rules.py), without the program, and compared with its
+report: the log, the accounts and the totals."""
 import itertools
-from typing import Iterable, Iterator
+from collections.abc import Callable, Iterable, Iterator
+from dataclasses import dataclass
 
-from registry_tools import showing, tables
-from registry_tools.engine import NotSettled, Settler, settler_of
-from registry_tools.errors import FOUND, FileFault, of_file, shown
-from registry_tools.options import add_engine, add_pair
+from registry_tools.engine import NotSettled, Settler
+from registry_tools.errors import FileFault, of_file, shown
 from registry_tools.progress import progress
 from registry_tools.second import rules
 from registry_tools.texts.day_text import DayText, read_day
 from registry_tools.texts.report import Report
 from registry_tools.texts.rows import Rows, bytes_of, rows_of
 
-EXAMPLE = "./day verify examples/week/monday.csv examples/week/monday-report.csv"
-COLUMNS = tables.COLUMNS["verify"]
+@dataclass(frozen=True)
+class Verified:
+    """A day that was worked out once more: how many instructions and accounts it has, and where its report differs."""
 
-
-def add_words(parser: argparse.ArgumentParser) -> None:
-    """Tells a parser the words of the command."""
-    add_pair(parser, "what is said to be its report")
-    add_engine(parser, "--program", "compare with a program, such as ./run, or the library too")
-    showing.add_words(parser)
+    instructions: int
+    accounts: int
+    difference: FileFault | None
 
 
 def expected_rows(day: DayText) -> Iterator[str]:
@@ -74,24 +64,19 @@ def difference_of_touched(day: DayText, report: Report) -> FileFault | None:
     return None
 
 
-def other_bytes(settler: Settler, words: argparse.Namespace) -> FileFault | None:
-    """How the report differs from what the engine writes of the day."""
+def other_bytes(settler: Settler, day: str, report: str) -> FileFault | None:
+    """How a report differs from what the engine writes of its day."""
     try:
-        settled = settler.settle(bytes_of(words.day))
+        settled = settler.settle(bytes_of(day))
     except NotSettled as fault:
-        return of_file(words.day, str(fault))
-    is_same = settled == bytes_of(words.report)
-    return None if is_same else of_file(words.report, f"{settler.name} writes other bytes")
+        return of_file(day, str(fault))
+    return None if settled == bytes_of(report) else of_file(report, f"{settler.name} writes other bytes")
 
 
-def run(words: argparse.Namespace) -> int:
-    """Runs the command, and answers the exit status."""
-    day, source = read_day(words.day), rows_of(words.report)
+def verify(day_path: str, report_path: str, settler: Callable[[], Settler] | None = None) -> Verified:
+    """Works a day out once more, and compares the report: also with what the engine writes, if one is named."""
+    day, source = read_day(day_path), rows_of(report_path)
     difference = first_difference(source, expected_rows(day))
-    if difference is None and words.program is not None:
-        difference = other_bytes(settler_of(words.program, "--program"), words)
-    counts = len(day.instructions), len(day.book)
-    row = [words.day, words.report, *counts, "no" if difference else "yes", *showing.fault_row(difference)]
-    so = f"{words.report} is what the rules make of {words.day}: instructions {counts[0]}, accounts {counts[1]}"
-    showing.show_or_tell(words, COLUMNS, [row], lambda: f"{difference or so}\n")
-    return FOUND if difference else 0
+    if difference is None and settler:
+        difference = other_bytes(settler(), day_path, report_path)
+    return Verified(len(day.instructions), len(day.book), difference)

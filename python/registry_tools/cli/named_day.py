@@ -10,11 +10,11 @@ from typing import Any
 
 from registry_tools.calendars.dates import DATE, date_of, is_date
 from registry_tools.errors import FileFault, WordsFault
-from registry_tools.office import folder, past
-from registry_tools.office.folder import Office
-from registry_tools.office.journal import Event
-from registry_tools.office.layout import LABELS
+from registry_tools.office import folder, handed, labels
+from registry_tools.office.office import Office
 from registry_tools.options import A_DATE, Given, Words
+from registry_tools.store.events import Event
+from registry_tools.store.past import kept, pair_of
 
 # The commands that take them, and what each takes of a day.
 PAIR, REPORTS, TEXT = "pair", "reports", "text"
@@ -59,7 +59,7 @@ def add_words(name: str, parser: Words) -> None:
 def in_place_of_paths(word: str | None = None) -> str:
     """The last day of a folder, as it is named where paths lack; nothing, if there is none."""
     with contextlib.suppress(WordsFault, FileFault):
-        last = folder.read_office(folder.folder_of(word)).last()
+        last = folder.opened(word).store.events.last()
         return f"; {DAY} {last.date} names the last day of the folder" if last else ""
     return ""
 
@@ -86,49 +86,48 @@ def is_named(name: str, arguments: list[str]) -> bool:
     return is_date(word) or bool(LIKE_A_DATE.fullmatch(word) and not os.path.exists(word))
 
 
-def look_up(name: str, words: argparse.Namespace) -> None:
-    """Puts the files of the days that words name into them, as if their paths had been given. Raises WordsFault if the
-    folder has no such day, and FileFault if somebody changed a file of it."""
-    named = getattr(words, "_dates", None)
+def look_up(name: str, said: argparse.Namespace) -> None:
+    """Puts the texts of the days that words name into them, as if their paths had been given. Raises WordsFault if the
+    folder has no such day."""
+    named = getattr(said, "_dates", None)
     if named is None:
         return
-    office = folder.opened(words._office)  # noqa: SLF001
+    office = folder.opened(said._office)  # noqa: SLF001
     if TAKES[name] == REPORTS:
-        words.days, words.reports = map(list, zip(*(paths_of(office, date) for date in named)))
+        pairs = [pair_of(office.store, day_of(office, date)) for date in named]
+        said.days, said.reports = [pair.day for pair in pairs], [pair.report for pair in pairs]
         return
-    words.day, report = paths_of(office, named)
+    pair = pair_of(office.store, day_of(office, named))
+    said.day = pair.day
     if TAKES[name] == PAIR:
-        words.report = report
-    if name in TAKE_NAMES and words.labels is None and (office.path / LABELS).exists():
-        words.labels = str(office.path / LABELS)
+        said.report = pair.report
+    if name in TAKE_NAMES:
+        said.names = labels.of_office(office)
     if name == "page":
-        look_up_more(office, named, words)
+        look_up_more(office, named, said)
 
 
-def look_up_more(office: Office, date: str, words: argparse.Namespace) -> None:
+def look_up_more(office: Office, date: str, said: argparse.Namespace) -> None:
     """Puts into the words of `./day page` what a folder knows of a day beside its pair: what waits, the day before, and
     who changed something."""
-    day, before = event_of(office, date), [event for event in office.journal.filed() if str(event.date) < date]
-    for key in past.OF_CHANGES:
-        past.as_filed(office, day, key)
-    words.pending = words.pending or str(past.as_filed(office, day, "waiting"))
-    words.by_hand = words.by_hand or str(office.day_folder(day.date))
-    if before and not words.history and not words.before:
-        words.before = [str(past.as_filed(office, before[-1], key)) for key in past.PAIR]
+    day = day_of(office, date)
+    before = [event for event in office.store.events.days if event.date < day.date]
+    said.pending = said.pending or kept(office.store, day, "waiting")
+    if not said.by_hand:
+        # (most commands make no page)
+        from registry_tools.pages.settled import told_by
+
+        said.told = told_by(handed.for_a_day(office.store, day).items(handed.CHANGES, handed.EDITS))
+    if before and not said.history and not said.before:
+        own = pair_of(office.store, before[-1])
+        said.before = [own.day, own.report]
 
 
-def event_of(office: Office, date: str) -> Event:
-    """The line of the journal that files a day. Raises WordsFault if none does."""
-    event = next((event for event in office.journal.filed() if str(event.date) == date), None)
+def day_of(office: Office, date: str) -> Event:
+    """The event that files a day. Raises WordsFault if none does."""
+    days = office.store.events.days
+    event = next((event for event in days if str(event.date) == date), None)
     if event is None:
-        there = [str(event.date) for event in office.journal.filed()]
-        known = f"days from {there[0]} to {there[-1]}, {len(there)} of them" if there else "no settled day"
+        known = f"days from {days[0].date} to {days[-1].date}, {len(days)} of them" if days else "no settled day"
         raise WordsFault(f"--day {date}: {office.path} has {known}, and not this one")
     return event
-
-
-def paths_of(office: Office, date: str) -> tuple[str, str]:
-    """The day text and the report of a day of the folder."""
-    event = event_of(office, date)
-    day, report = (str(past.as_filed(office, event, key)) for key in past.PAIR)
-    return day, report

@@ -1,0 +1,50 @@
+"""Shows what is due from the last settled day on, up to DATE, and what is overdue, in the order of the dates:
+
+  deadline          by when an operator has to have surrendered what is missing for a year, or by when its emissions
+                    of a year have to be entered
+  overdue           a deadline that is over, if the operator still has not done that
+  reversal ends     the last day on which a surrender or a deletion may still be reversed
+  list takes effect when an account that was added to a trusted list may be used
+  waiting           when an instruction that waits is due
+  working day       one that is over and has no settlement
+  calendar ends     the last working day that the text knows
+
+Deadlines are those of office.ini; no rule of a day text tells one. Without --until it shows as many days ahead as
+office.ini says under [due] lead; without that, 30. An operator whose surrendered allowances suffice is not shown; one
+whose emissions lack behind their deadline is shown with that for surrenders.
+
+People are shown the first working days that are over, and how many more; programs all of them.
+--ics writes the same as a calendar (iCalendar), which other programs take in.
+"""
+import argparse
+
+from registry_tools import showing, tables
+from registry_tools.cli import asked, words
+from registry_tools.office import folder, labels
+from registry_tools.output import NewFile
+from registry_tools.questions.due import as_calendar, due_until, folded, last_shown
+
+EXAMPLE = "./day due --until 2025-10-31 --office out/office"
+COLUMNS = tables.COLUMNS["due"]
+
+
+def add_words(parser: argparse.ArgumentParser) -> None:
+    """Tells a parser the words of the command."""
+    parser.add_argument("--until", metavar="DATE", help="the last day that is shown")
+    parser.add_argument("--ics", metavar="FILE", help="write a calendar to this file")
+    words.add_office(parser)
+    showing.add_words(parser)
+
+
+def run(said: argparse.Namespace) -> int:
+    """Runs the command, and answers the exit status."""
+    office = folder.opened(said.office)
+    until = asked.date_or("--until", said.until, last_shown(office))
+    found = due_until(office, until)
+    if said.ics is not None:
+        NewFile(said.ics, as_calendar(found, until)).keep()
+        print(f"{said.ics}: entries {len(found)}")
+        return 0
+    rows = [own.cells() for own in (found if showing.is_for_programs(said) else folded(found))]
+    showing.show(said, COLUMNS, asked.rows_shown(said, COLUMNS, rows, labels.of_office(office)))
+    return 0

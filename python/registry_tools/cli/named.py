@@ -1,0 +1,16 @@
+"""The word that names a file of names."""
+import argparse
+
+from registry_tools.office import labels
+from registry_tools.office.labels import Labels
+
+
+def add_words(parser: argparse.ArgumentParser) -> None:
+    """Tells a parser the word of the command."""
+    parser.add_argument("--labels", metavar="FILE", help="names of users, holders and accounts, as in labels.csv")
+
+
+def labels_of(said: argparse.Namespace) -> Labels:
+    """The names of the file that the word names, or of the folder whose day was named; without one none."""
+    own: Labels | None = getattr(said, "names", None)
+    return labels.read(said.labels) if said.labels is not None else own or Labels()

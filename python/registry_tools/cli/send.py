@@ -1,0 +1,113 @@
+"""Makes a package for each holder, to print or to send: one HTML file with all accounts of the holder, and the
+statement of each as csv.
+
+FOLDER gets HOLDER.html and HOLDER-ACCOUNT.csv, and must not be there before. What others own, decide or tried is in
+none of them, and no page leads to another one. Each account begins with what waits and what was refused. With --from
+the statements begin on an earlier day: what was not due or was refused then, and was done later, is told as done later.
+An account that had another holder on one of these days begins with the first day of its holder of the last one; the
+statement of the other holder is made with --day.
+Names are those of the folder of days (./day label), or of the file of --labels: rows user,NUMBER,NAME,
+holder,NUMBER,NAME and account,NUMBER,NAME, in UTF-8. A letter tells the head of the folder, by which ./day audit
+--since sees later whether days were changed, and the SHA-256 of each csv; it names no account but its holder's. With
+--pairs the days are those of paths, and the file of --pending says what waits since earlier ones.
+
+A day that is not released is told, since it may be undone behind its letters: --release releases it with them.
+"""
+import argparse
+import sys
+
+from registry_tools.cli import asked, named, words
+from registry_tools.errors import WordsFault
+from registry_tools.notes import LOOK
+from registry_tools.office import folder, labels, release
+from registry_tools.office.office import Office
+from registry_tools.pages.send import Send, Sent, send, span_of
+from registry_tools.questions import days
+from registry_tools.store.events import Event
+from registry_tools.store.past import kept
+
+EXAMPLE = "./day send out/sent --day 2025-09-24 --holder 5502 --office out/office"
+
+
+def add_words(parser: argparse.ArgumentParser) -> None:
+    """Tells a parser the words of the command."""
+    parser.add_argument("folder", metavar="FOLDER", help="the folder that is made")
+    last = "the last day of the statements; without it, the last settled one"
+    parser.add_argument("--day", metavar="DATE", help=last)
+    parser.add_argument("--from", dest="begin", metavar="DATE", help="the first day; without it, the last one alone")
+    parser.add_argument("--holder", type=int, nargs="+", metavar="H", help="only these holders")
+    named.add_words(parser)
+    waits = "with --pairs: the pending file of ./day next, behind the last of them"
+    parser.add_argument("--pending", metavar="FILE", help=waits)
+    parser.add_argument("--release", action="store_true", help="release the day with its letters")
+    asked.add_words(parser)
+    words.add_who(parser)
+
+
+def run(said: argparse.Namespace) -> int:
+    """Runs the command, and answers the exit status."""
+    asked.must_be_one_place(said)
+    made = of_pairs(said) if said.pairs else of_folder(said)
+    print(f"{said.folder}: packages {made.holders}, accounts {made.accounts}")
+    return 0
+
+
+def send_of(said: argparse.Namespace, own: days.Days) -> Send:
+    """Which packages the words ask for."""
+    begin, end = (asked.date_or(name, word, None) for name, word in (("--from", said.begin), ("--day", said.day)))
+    return Send(*span_of(own.dates, begin, end), tuple(said.holder) if said.holder else None, said.pending)
+
+
+def of_pairs(said: argparse.Namespace) -> Sent:
+    """Makes the packages of pairs of paths."""
+    own = days.of_pairs(days.pairs_named(said.pairs))
+    wanted = send_of(said, own)
+    words.one_line("--who", said.who)
+    if said.release:
+        raise WordsFault("--release is for a folder: paths are not released")
+    return send(own, named.labels_of(said), wanted, said.folder, lambda: None)
+
+
+def of_folder(said: argparse.Namespace) -> Sent:
+    """Makes the packages of a folder, and releases their last day with them, if the words ask for it."""
+    if said.pending:
+        raise WordsFault("--pending is for --pairs: a folder knows what waits")
+    office = folder.opened(said.office)
+    own = days.of_store(office.store)
+    wanted = send_of(said, own)
+    day = office.store.events.day_of(wanted.end)
+    assert day is not None  # (it is one of the dates)
+    wanted = Send(wanted.begin, wanted.end, wanted.holders, kept(office.store, day, "waiting"))
+    names = labels.of_office(office) if said.labels is None else labels.read(said.labels)
+    by = words.by(said, office)
+    is_released = office.store.events.is_released(day)
+    if not is_released and said.release:
+        must_be_proved(day)
+    elif not is_released:
+        released = "it may be undone behind its letters; --release releases it with them"
+        print(f"{LOOK}: {day.date} is not released: {released}", file=sys.stderr)
+
+    def keep() -> None:
+        if said.release and not is_released:
+            # (all letters are there, and get their names behind it: no day is taken back behind its letters)
+            release.release(office, by, day, f"letters in {said.folder}")
+            print(f"{day.date} is released: it is not undone any more", file=sys.stderr)
+        else:
+            must_still_be_there(office, day)
+
+    return send(own, names, wanted, said.folder, keep)
+
+
+def must_be_proved(day: Event) -> None:
+    """Ends the command if a day is to be released of which nothing proves the report."""
+    doubt = release.doubt_of(day)
+    if doubt:
+        raise WordsFault(f"--release: {day.date} {doubt}; ./day release {day.date} --yes releases it")
+
+
+def must_still_be_there(office: Office, day: Event) -> None:
+    """Ends the command if somebody took the day of the letters back while they were made."""
+    with office.store.reading():
+        there = office.store.events.day_of(day.date)
+    if there is None or there.line != day.line:
+        raise WordsFault(f"{day.date} was undone meanwhile: look once more")

@@ -1,0 +1,63 @@
+"""Copies of the file of a folder, also of one in use: made by SQLite's own backup, and whole or not at all."""
+import contextlib
+import os
+import sqlite3
+from dataclasses import dataclass
+from pathlib import Path
+
+from registry_tools import opening, steps
+from registry_tools.errors import FileFault
+from registry_tools.output import must_be_writable, name_beside, remove_left, writing
+from registry_tools.store import events, file
+from registry_tools.store.file import MODE, Store
+
+EARLIER = "a name that is free, or that of an earlier copy of this folder"
+
+
+@dataclass(frozen=True)
+class Copy:
+    """What a copy has: how many events and days, and the head of the folder as it then stood."""
+
+    events: int
+    days: int
+    head: str
+
+
+def backup(store: Store, path: str) -> Copy:
+    """Makes a copy of the file, in place of an earlier copy if there is one. Raises FileFault if something else has
+    that name, or if the copy is not what it has to be."""
+    must_be_writable(path)
+    real = Path(os.path.realpath(path))
+    if real.exists():
+        must_be_earlier(store, path, real)
+    beside = real.parent / name_beside(real.name)
+    remove_left(real.parent)
+    try:
+        with writing(Path(path)), file.telling(Path(path)):
+            os.close(opening.create(beside, MODE))
+            with contextlib.closing(sqlite3.connect(beside)) as target:
+                store.db.backup(target)
+            made = copy_at(beside, path)
+            steps.hold()
+            os.replace(beside, real)
+    finally:
+        for suffix in ("", "-journal"):
+            with contextlib.suppress(OSError):
+                os.unlink(f"{beside}{suffix}")
+    return made
+
+
+def copy_at(place: Path, path: str) -> Copy:
+    """What the copy at a place has. A fault names the path that it is to have."""
+    with contextlib.closing(file.connected(place)) as db:
+        there = events.read(db, Path(path))
+        return Copy(len(there.of_days()), len(there.days), there.head)
+
+
+def must_be_earlier(store: Store, path: str, real: Path) -> None:
+    """Ends the command if what has a name is no earlier state of this folder: then it would be lost."""
+    with contextlib.suppress(sqlite3.Error), contextlib.closing(file.connected(real)) as db:
+        line = file.last_line(db)
+        if line in {event.line for event in store.events.all}:
+            return
+    raise FileFault(path, 0, "", "a file that is no earlier copy of this folder", EARLIER)
