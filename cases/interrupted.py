@@ -1,74 +1,87 @@
-"""Commands that end, fail, or are interrupted at one of their calls that change files, and how a folder of days stands
-then."""
+"""Commands that are killed, end, fail or are interrupted at one of their calls that change files, and how a folder of
+days stands then. It is looked at by SQLite alone, and by what commands say.
+"""
+from __future__ import annotations
+
+import contextlib
 import ctypes
 import errno
+import hashlib
 import os
 import re
 import shutil
 import signal
+import sqlite3
+import subprocess
 import sys
+import tempfile
+import time
 import traceback
+import zlib
+from collections.abc import Callable
 from pathlib import Path
 from typing import NoReturn
 
+from harness import TOP
+
 from registry_tools import main
-from registry_tools.office import approvals, folder, handed, handed_journal, journal
-from registry_tools.office.layout import LABELS
 
 KILLED, FELL = 137, 70
-FAILURES = (errno.ENOSPC, errno.EROFS, errno.ENOMEM)
-KNOWN = {"office.ini", "journal.csv", "days", "next", "lock", "index.sqlite", "index.sqlite-journal", "labels.csv"}
+FAILURES = (errno.ENOSPC, errno.EROFS, errno.ENOMEM, errno.EIO)
+FILE = "registry.sqlite"
+KNOWN = {"office.ini", FILE}
 # Without when they were given.
-GIVEN_AT = re.compile(rb"(?<=,)[0-9-]{10}T[0-9:]{8}Z(?=,)")
+GIVEN_AT = re.compile(rb"[0-9-]{10}T[0-9:]{8}Z")
+# What an event has of its own time, and what has the sum of it.
+OF_ITS_TIME = {"at", "before", "line"}
+# What the last look saw: no answer rests on it.
+NO_STATE = {"events", "texts", "looked"}
 
 
 # How a folder stands.
 
 
+def opened(path: Path) -> contextlib.closing[sqlite3.Connection]:
+    """The file of a folder, as any program opens it."""
+    return contextlib.closing(sqlite3.connect(f"{(path / FILE).absolute().as_uri()}?mode=rw", uri=True))
+
+
 def state_of(path: Path) -> object:
-    """All that a folder says, without times."""
-    if not (path / "office.ini").exists():
+    """All that a folder says, without times: its events with their texts, and its tables."""
+    if not (path / FILE).exists():
         return None
-    office = folder.read_office(path)
-    events = [(event.event, str(event.date), event.first, event.next, event.why) for event in office.journal.events]
-    days = {str(event.date): day_of(office, event) for event in office.journal.filed()}
-    there = office.handed_in()
-    waits, names = there.folder / handed.WAITS, path / LABELS
-    return (
-        events,
-        days,
-        parts_of(there),
-        [each.rows for each in there.items(*handed.KINDS)],
-        waits.exists() and waits.read_bytes(),
-        names.exists() and GIVEN_AT.sub(b"", names.read_bytes()),
-        asked_and_approved(office),
-    )
+    with opened(path) as db:
+        texts = {own: without_times(zlib.decompress(packed)) for own, packed in db.execute("SELECT sum, packed FROM texts")}
+        rows = db.execute("SELECT * FROM events ORDER BY id")
+        columns = [own[0] for own in rows.description]
+        events = [
+            tuple(texts.get(value, value) for name, value in zip(columns, row) if name not in OF_ITS_TIME) for row in rows
+        ]
+        named = "SELECT name FROM sqlite_master WHERE type = 'table' AND name NOT LIKE 'sqlite_%' ORDER BY name"
+        tables = [own for (own,) in db.execute(named) if own not in NO_STATE]
+        return events, sorted(texts.values()), {own: db.execute(f"SELECT * FROM {own}").fetchall() for own in tables}
 
 
-def asked_and_approved(office: folder.Office) -> dict[str, bytes]:
-    """What was asked for, as far as it counts, and who approved what. (What does not count any more may lie there.)"""
-    asked = [own.file for own in approvals.all_asked(office)]
-    approved = [path.name for path in approvals.named(office.next_folder, handed.APPROVED)]
-    return {name: GIVEN_AT.sub(b"", (office.next_folder / name).read_bytes()) for name in (*asked, *approved)}
+def without_times(content: bytes) -> str:
+    """What a text says, whenever it was written."""
+    return hashlib.sha256(GIVEN_AT.sub(b"", content)).hexdigest()
 
 
-def parts_of(there: handed.HandedIn) -> object:
-    return [(part.kind, part.start, part.count, part.earliest, part.name, part.sources) for part in there.parts], [
-        (taken.place, taken.why) for taken in there.taken
-    ]
-
-
-def day_of(office: folder.Office, event: journal.Event) -> object:
-    path = office.file(event, "handed")
-    filed = handed_journal.read_journal(path)
-    return parts_of(filed), {key: office.file(event, key).read_bytes() for key in journal.FILES if key != "handed"}
+def fault_of_file(path: Path) -> str | None:
+    """What SQLite finds wrong with the file of a folder, and whether something lies beside it."""
+    with opened(path) as db:
+        said = [own for (own,) in db.execute("PRAGMA integrity_check")]
+        keys = db.execute("PRAGMA foreign_key_check").fetchall()
+    left = sorted({own.name for own in path.iterdir()} - KNOWN)
+    return f"integrity_check {said}, foreign_key_check {keys}, beside it {left}" if said != ["ok"] or keys or left else None
 
 
 # Interrupted commands.
 
 
 class Interrupted:
-    """Runs commands in processes of their own, which end, or fail, at a call that changes files."""
+    """Runs commands in processes of their own, which end, or fail, at a call that changes files, or are killed at a
+    moment."""
 
     def __init__(self, library: str, work: Path) -> None:
         self.calls, self.work = ctypes.CDLL(library), work
@@ -76,13 +89,34 @@ class Interrupted:
 
     def run(self, words: list[str], number: int = 0, error: int = 0) -> tuple[int, int, str]:
         """The status of a command, how many calls it made, and what it said."""
-        says, told = self.work / "says", self.work / "told"
+        told = self.work / "told"
+        told.unlink(missing_ok=True)
+        status = self.ended(self.begun(words, number, error))
+        told_text = told.read_text() if told.exists() else ""
+        return status, int(told_text or 0), self.says()
+
+    def killed_after(self, words: list[str], seconds: float) -> tuple[int, str]:
+        """The status of a command that is killed after this time, if it has not come to its end, and what it said."""
+        child = self.begun(words, 0, 0)
+        time.sleep(seconds)
+        os.kill(child, signal.SIGKILL)
+        return self.ended(child), self.says()
+
+    def begun(self, words: list[str], number: int = 0, error: int = 0) -> int:
+        """The process in which a command runs."""
         child = os.fork()
         if child == 0:
             self.run_here(words, number, error)
-        _, ended = os.waitpid(child, 0)
-        told_text = told.read_text() if told.exists() else ""
-        return os.waitstatus_to_exitcode(ended), int(told_text or 0), says.read_text(errors="replace")
+        return child
+
+    def ended(self, child: int) -> int:
+        """The status of a process, once it has ended: that of one that was killed is KILLED."""
+        status = os.waitstatus_to_exitcode(os.waitpid(child, 0)[1])
+        return KILLED if status == -signal.SIGKILL else status
+
+    def says(self) -> str:
+        """What the last command said."""
+        return (self.work / "says").read_text(errors="replace")
 
     def run_here(self, words: list[str], number: int, error: int) -> NoReturn:
         """Runs a command in this process, and ends it."""
@@ -108,9 +142,20 @@ class Interrupted:
             os._exit(FELL)
 
 
+def with_library(script: Path, run: Callable[[str], int]) -> int:
+    """Runs a script behind the library that interrupts."""
+    there = os.environ.get("INTERRUPT")
+    if there:
+        return run(there)
+    with tempfile.TemporaryDirectory() as work:
+        library = f"{work}/interrupt.so"
+        made = ["cc", "-shared", "-fPIC", "-O1", "-o", library, str(TOP / "tools/interrupt.c"), "-ldl"]
+        subprocess.run(made, check=True)
+        more = {"INTERRUPT": library, "LD_PRELOAD": library}
+        return subprocess.run([sys.executable, script, *sys.argv[1:]], env={**os.environ, **more}, check=False).returncode
+
+
 def restore(office: Path, kept: Path) -> None:
-    for path in office.parent.glob(".office.*"):
-        shutil.rmtree(path)
     shutil.rmtree(office, ignore_errors=True)
     if kept.exists():
         shutil.copytree(kept, office)
@@ -124,23 +169,20 @@ def interrupted_trial(
     error: int,
     states: tuple[object, object],
     done: int = 0,
-    in_parts: bool = False,
 ) -> str | None:
-    """A command that ends, or fails, at this call: its folder is in one of two states then, and the same command leads
-    from the first to the second, with the status of one that is done. One that works in parts may stand between."""
+    """A command that ends, or fails, at this call: its folder is in one of two states then, of which the next command
+    says nothing; and the same command leads from the first to the second, with the status of one that is done."""
     begun, ended = states
     status, _, says = runs.run(words, number, error)
     if "Traceback" in says or status not in ((done, 3) if error else (KILLED,)):
         return f"status {status}: {says}"
-    if begun is not None or (office / "office.ini").exists():
+    if begun is not None or (office / FILE).exists():
         looked, _, saw = runs.run(["status", "--office", str(office)])
-        if looked != 0:
-            return f"status after it: {looked}: {saw}"
-        left = {path.name for path in office.iterdir()} - KNOWN
-        if left:
-            return f"left: {left}"
+        wrong = saw if looked else fault_of_file(office)
+        if wrong:
+            return f"behind it: {wrong}"
     now = state_of(office)
-    if now not in (begun, ended) and not in_parts:
+    if now not in (begun, ended):
         return f"neither as before nor as after: {says}"
     if status == done and now != ended:
         return f"said to be done, and is not: {says}"
