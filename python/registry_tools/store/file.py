@@ -236,3 +236,10 @@ def making(path: Path) -> Iterator[Store]:
             db.execute("COMMIT")
         finally:
             db.close()
+
+
+def has_changed(folder: Path, there: Events) -> bool:
+    """Whether a command has added events since they were read."""
+    with contextlib.suppress(sqlite3.Error), contextlib.closing(connected(folder / NAME)) as db:
+        return last_line(db) != there.last_line
+    return False
