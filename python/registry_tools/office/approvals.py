@@ -1,121 +1,95 @@
 """Four eyes: what was asked for and waits for another login, and who approved it.
 
-If office.ini lists a command under [four eyes], what it would do waits in next/ for `./day approve`:
+If office.ini lists a command under [four eyes], what it would do waits for `./day approve`. An event `asked` has what
+somebody asked for, an event `approved` that somebody approves what has a sum.
 
-  asked-COMMAND-DATE.csv    asked,AT,WHO,LOGIN,COMMAND,DATE,WORDS,STATE,RESULT,BESIDE
-                            a close, undo, release or correct that somebody asked for; BESIDE is what it adds, by the
-                            commands `hand-in` and `change`
-  approved-SUM-SUM.csv      approved,AT,WHO,LOGIN,SUM,WHAT
-                            somebody approves what has this sum
+The sum is that of all that would be done: the command, its date and words, the state of the folder (the line of the
+last event that changed it), and the result (the day's text). Of something that was handed in it is the sum of its event
+and of the places that count. So an approval is of nothing else than what was approved; what changed has another sum.
 
-SUM is that of all that would be done: the command, its date and words, the STATE of the folder (the last line of the
-journal, and the sum of what was handed in), and the RESULT (the day's text). Of a file that was handed in it is the sum
-of who handed it in and of each of its rows that counts. So an approval is of nothing else than what was approved; what
-changed has another sum.
-
-A name in a file asks for nothing and approves nothing. Such a file counts if the system says that it is of the login
-that it names, and that nobody else may write it. An approval counts if this login may give the command, with all that
-it does beside; if it is another one than the login that does it; and if what was handed in has not come through its
-hands. Each file is put there in one step, and all are gone with the next day that is filed or undone.
+An approval counts if its login may give the command, with all that it does beside, and is another one than the login
+that does it. All are gone with the next day that is filed or undone.
 """
-import contextlib
-import csv
-from collections.abc import Collection
-from dataclasses import dataclass
-from pathlib import Path
-from typing import Iterator, NamedTuple, Protocol
+import datetime
+import json
+from collections.abc import Collection, Iterator
+from typing import NamedTuple
 
-from registry_tools import outcomes
-from registry_tools.errors import FileFault, shown
-from registry_tools.office import files, handed, journal, people
-from registry_tools.office.handed import APPROVED, ASKED, Approved, HandedIn, Part
-from registry_tools.office.journal import Journal, row_of
-from registry_tools.office.people import PROXY, People
+from registry_tools.office import handed, people
+from registry_tools.office.handed import Approved, HandedIn, Part
+from registry_tools.office.office import Office
+from registry_tools.store.events import APPROVED, ASKED, Event
+from registry_tools.store.texts import sum_of
 
-# Which command a file that was handed in waits for, by what it has.
+# Which command something that was handed in waits for, by what it has.
 COMMAND_OF = {handed.DO: "hand-in", handed.WORK: "hand-in", handed.CHANGES: "change", handed.EDITS: "change"}
-ASKED_FORM = "asked,AT,WHO,LOGIN,COMMAND,DATE,WORDS,STATE,RESULT,BESIDE"
-APPROVED_FORM = "approved,AT,WHO,LOGIN,SUM,WHAT"
 # What takes days back and closes them waits as these do.
 LIKE = {"correct": ("correct", "close", "undo")}
 # By these words a command says that it waits.
 ASKED_FOR = "is asked for, and waits for"
-# So many digits of a sum are the name of a file.
-NAME_DIGITS = 16
-
-
-class Office(Protocol):
-    """What is asked of an open folder (office/folder.py)."""
-
-    journal: Journal
-    # The login that changes it, and the name that was given.
-    login: str
-    who: str
-
-    @property
-    def next_folder(self) -> Path:
-        """Where lies what was handed in for the next day."""
-
-    @property
-    def people(self) -> People:
-        """Who may do what, and what waits for a second one."""
+FIRST_TEXT = "the first text, with instructions"
 
 
 class Asked(NamedTuple):
-    """What somebody asked for."""
+    """What somebody asked for: the event that has it, and the state in which it was asked for."""
 
-    at: str
-    who: str
-    login: str
-    command: str
-    date: str
-    words: str
+    event: Event
     state: str
-    result: str
-    # What it does beside, with a blank between two commands.
-    beside: str
+
+    @property
+    def at(self) -> str:
+        """When it was asked for."""
+        return self.event.at
+
+    @property
+    def who(self) -> str:
+        """Who asked, by the name that was given."""
+        return self.event.who
+
+    @property
+    def login(self) -> str:
+        """The login that asked."""
+        return self.event.login
+
+    @property
+    def command(self) -> str:
+        """The command that is asked for."""
+        return self.event.kind
+
+    @property
+    def date(self) -> datetime.date:
+        """The day of the command."""
+        return self.event.date
+
+    @property
+    def result(self) -> str:
+        """The sum of what it gives."""
+        return self.event.sum
 
     @property
     def commands(self) -> tuple[str, ...]:
         """All commands that whoever approves it has to be allowed."""
-        return (self.command, *self.beside.split())
+        return (self.command, *self.event.beside.split())
 
     @property
     def sum(self) -> str:
         """The sum of what is asked for, whoever asks and whenever."""
-        return files.sum_of(row_of([*self[3:]]).encode("utf-8", "surrogateescape"))
+        own = self.event
+        return sum_of_words(own.kind, str(own.date), own.name, self.state, own.sum, own.beside)
 
     @property
-    def file(self) -> str:
-        """The name of its file."""
-        return f"{ASKED}-{self.command}-{self.date}.csv"
+    def words(self) -> tuple[str, str]:
+        """The words by which it is approved."""
+        return self.command, str(self.date)
 
     def __str__(self) -> str:
-        return " ".join([self.command, self.date, *([self.words] if self.words else [])])
+        own = self.event
+        return " ".join([own.kind, str(own.date), *([own.name] if own.name else [])])
 
 
-class Approval(NamedTuple):
-    """What somebody approves."""
-
-    at: str
-    who: str
-    login: str
-    sum: str
-    what: str
-
-    @property
-    def file(self) -> str:
-        """The name of its file."""
-        mine = files.sum_of(self.login.encode("utf-8", "surrogateescape"))
-        return f"{APPROVED}-{self.sum[:NAME_DIGITS]}-{mine[:NAME_DIGITS]}.csv"
-
-
-@dataclass
-class Approvals:
-    """All approvals of a folder, with what is wrong with those that do not count."""
-
-    valid: list[Approval]
-    faults: list[FileFault]
+def sum_of_words(*words: str) -> str:
+    """The sum of some words."""
+    return sum_of(json.dumps(words).encode("ascii"))
 
 
 def waits(office: Office, *commands: str) -> bool:
@@ -123,84 +97,31 @@ def waits(office: Office, *commands: str) -> bool:
     return any(own in office.people.four_eyes for command in commands for own in LIKE.get(command, (command,)))
 
 
-# Reading them.
-
-
-def state_of(office: Office) -> str:
-    """What is asked for builds on: the last line of the journal, and what was handed in."""
-    content = files.bytes_in(office.next_folder / handed.NAME)
-    return f"{office.journal.last_line} {files.sum_of(content)}"
-
-
-def named(folder: Path, word: str) -> Iterator[Path]:
-    """The files of next/ that were asked for, or approve something."""
-    for path in files.listed(folder):
-        if handed.OF_APPROVALS.fullmatch(path.name) and path.name.startswith(f"{word}-"):
-            yield path
-
-
-def row_in(path: Path, content: bytes, tag: str, form: str) -> list[str]:
-    """The fields of the one row of a file, behind its tag."""
-    rows: list[list[str]] = []
-    try:
-        rows += [*csv.reader(content.decode("utf-8", "surrogateescape").splitlines())]
-    except csv.Error:
-        rows.clear()
-    if len(rows) != 1 or len(rows[0]) != form.count(",") + 1 or rows[0][0] != tag:
-        raise FileFault(path, 0, "row", shown(content[:80].decode("utf-8", "replace")), form)
-    return rows[0][1:]
+# What was asked for, and what approves it.
 
 
 def all_asked(office: Office) -> list[Asked]:
-    """What was asked for, and still would be done as it was asked."""
-    found = []
-    for path in named(office.next_folder, ASKED):
-        with contextlib.suppress(FileFault):
-            content, user = files.owned(path)
-            asked = Asked(*row_in(path, content, ASKED, ASKED_FORM))
-            is_own = people.login_of(user) == people.owner_of(asked.login)
-            if is_own and asked.file == path.name and asked.state == state_of(office):
-                found.append(asked)
-    return found
+    """What was asked for, and still would be done as it was asked: of each command and day, what was asked last."""
+    state, found = office.events.state, dict[tuple[str, datetime.date], Asked]()
+    for event in reversed(office.events.all):
+        if event.what not in (ASKED, APPROVED):
+            break
+        if event.what == ASKED:
+            found.setdefault((event.kind, event.date), Asked(event, state))
+    return [found[key] for key in sorted(found)]
 
 
-def all_approvals(office: Office) -> Approvals:
-    """The approvals of a folder."""
-    found = Approvals([], [])
-    for path in named(office.next_folder, APPROVED):
-        try:
-            found.valid.append(approval_in(office, path))
-        except FileFault as fault:
-            found.faults.append(fault)
-    return found
-
-
-def approval_in(office: Office, path: Path) -> Approval:
-    """An approval, if the system says that it is of the login that it names. Raises FileFault."""
-    content, user = files.owned(path)
-    approval = Approval(*row_in(path, content, APPROVED, APPROVED_FORM))
-    owner, own = people.login_of(user), people.owner_of(approval.login)
-    if owner != own:
-        found = f"an approval of {people.person_of(approval.login)} that {owner} has written"
-        raise FileFault(path, 0, "LOGIN", found, f"a file of {own}: nobody approves for somebody else")
-    if own != approval.login and not office.people.may_speak(own):
-        raise FileFault(path, 0, "LOGIN", shown(approval.login), f"a login: {own} has no right {PROXY}")
-    if approval.file != path.name:
-        raise FileFault(path, 0, "SUM", shown(approval.sum), "the sum of the name of the file")
-    return approval
-
-
-# What waits, and who may let it through.
+def all_approvals(office: Office) -> list[Event]:
+    """The approvals since the last day was filed or undone."""
+    return [event for event in office.events.since(office.events.base) if event.what == APPROVED]
 
 
 def sum_of_part(handed_in: HandedIn, part: Part) -> str:
-    """The sum of a file that was handed in, as far as it counts: of who handed it in when and why, and of its rows."""
-    rows = [row for item in handed_in.items(part.kind) if item.part is part for row in item.rows]
-    said = [handed_in.base, part.kind, part.at, part.who, part.login, str(part.start), part.name, *rows]
-    return files.sum_of(row_of(said).encode("utf-8", "surrogateescape"))
+    """The sum of something that was handed in, as far as it counts."""
+    return sum_of_words(part.event.line, *map(str, handed_in.left_of(part)))
 
 
-def is_second(office: Office, approval: Approval, commands: Collection[str], sum_asked: str, login: str) -> bool:
+def is_second(office: Office, approval: Event, commands: Collection[str], sum_asked: str, login: str) -> bool:
     """Whether an approval is of this, by another login, which may give the commands. Of what nobody knows who did it,
     nobody is the second one."""
     is_other = bool(login) and people.person_of(approval.login) not in office.people.hands_of(login)
@@ -208,53 +129,62 @@ def is_second(office: Office, approval: Approval, commands: Collection[str], sum
 
 
 def needs_second(office: Office, part: Part) -> bool:
-    """Whether a file that was handed in counts only if another login approves it: if all such files do, or if
-    office.ini names people, and does not let whoever handed it in or passed it on do so."""
+    """Whether something that was handed in counts only if another login approves it: if all such things do, or if
+    office.ini names people, and does not let whoever handed it in do so."""
     command = COMMAND_OF.get(part.kind)
     return command is not None and (waits(office, command) or not office.people.may_have(part.login, command))
 
 
-def look_at(office: Office, handed_in: HandedIn) -> None:
-    """Notes which of the files that were handed in wait for another login, and who approved the others."""
-    # (a row of the journal of next/ approves nothing)
-    handed_in.waiting, handed_in.approved = [], []
-    asked = [part for part in handed_in.parts if needs_second(office, part) and handed_in.left_of(part)]
-    valid = all_approvals(office).valid if asked else []
+def handed_in_of(office: Office) -> HandedIn:
+    """What was handed in for the next day: with what waits for another login, and who approved the others."""
+    there = handed.for_the_next_day(office.store)
+    there.waiting, there.approved = [], []
+    asked = [part for part in there.parts if needs_second(office, part) and there.left_of(part)]
+    given = all_approvals(office) if asked else []
     for part in asked:
-        own, commands = sum_of_part(handed_in, part), (COMMAND_OF[part.kind],)
-        by = next((each for each in valid if is_second(office, each, commands, own, part.login)), None)
+        own, commands = sum_of_part(there, part), (COMMAND_OF[part.kind],)
+        by = next((each for each in given if is_second(office, each, commands, own, part.login)), None)
         if by is None:
-            handed_in.waiting.append(part)
+            there.waiting.append(part)
         else:
-            handed_in.approved.append(Approved(by.at, by.who, part.start, by.login))
+            there.approved.append(Approved(by.at, by.who, part.start, by.login))
+    return there
 
 
 def approvers(office: Office, asked: Asked) -> list[str]:
     """The logins that approved what is asked for."""
-    there = all_approvals(office).valid
+    there = all_approvals(office)
     return [own.login for own in there if is_second(office, own, asked.commands, asked.sum, asked.login)]
 
 
-# Asking and approving.
+# Asking.
+
+
+class AskedFor(NamedTuple):
+    """Something is not done yet, but asked for: what, by whom it may be approved, and how."""
+
+    asked: Asked
+    second: str
+
+    def __str__(self) -> str:
+        return f"{self.asked} {ASKED_FOR} {self.second}: {way(self.asked)}"
 
 
 def let_through(
-    office: Office, command: str, date: object, words: str, result: str, beside: Collection[str] = ()
-) -> str | None:
+    office: Office, command: str, date: datetime.date, words: str, result: str, beside: Collection[str] = ()
+) -> str | AskedFor:
     """Who approved that this login does this, with what it does beside; nothing, if nobody has to. If it has to wait,
-    keeps what is asked for, says so, and answers None."""
+    keeps what is asked for."""
     if not waits(office, command, *beside):
         return ""
-    own = journal.now(), office.who, office.login
-    asked = Asked(*own, command, str(date), words, state_of(office), result, " ".join(beside))
+    state = office.events.state
+    said = {"kind": command, "date": date, "name": words, "sum": result, "beside": " ".join(beside)}
+    asked = Asked(Event(ASKED, login=office.login, **said), state)  # type: ignore[arg-type]
     by = approvers(office, asked)
     if by:
         return ", ".join(by)
-    remove_stale(office)
-    left = put(office, asked.file, row_of([ASKED, *asked]))
-    outcomes.asked_for()
-    print(f"{asked} {ASKED_FOR} {second_for(office, asked.commands, asked.login)}: {way(asked)}{left}")
-    return None
+    kept = Asked(office.add(ASKED, **said), state)
+    return AskedFor(kept, second_for(office, kept.commands, kept.login))
 
 
 def way(asked: Asked) -> str:
@@ -272,23 +202,74 @@ def second_for(office: Office, commands: Collection[str], login: str) -> str:
     return " or ".join(others) or "somebody else, and office.ini names nobody who may"
 
 
-def approve(office: Office, sum_asked: str, what: str) -> str:
-    """Approves what has this sum. Answers what could not be done behind it, in words."""
-    approval = Approval(journal.now(), office.who, office.login, sum_asked, what)
-    remove_stale(office)
-    return put(office, approval.file, row_of([APPROVED, *approval]))
+# What waits, in words.
 
 
-def put(office: Office, name: str, row: str) -> str:
-    """Puts a file into next/, of which this login is the owner, in one step. Answers what could not be done behind it,
-    in words."""
-    left = files.step(office.next_folder / name, f"{row}\n".encode("utf-8", "surrogateescape"), files.OWN_MODE)
-    return f"; {left}" if left else ""
+class Waits(NamedTuple):
+    """Something that waits for another login, in words; what that is, what to do, the words of ./day approve, if it is
+    not approved yet, and its part of what was handed in."""
+
+    said: str
+    what: str
+    way: str
+    words: tuple[str, ...]
+    part: Part | None = None
+
+    @property
+    def line(self) -> str:
+        """All of it, for who gives commands."""
+        return f"{self.said}: {self.way}"
 
 
-def remove_stale(office: Office) -> None:
-    """Removes what was asked for in another state of the folder: it does not count any more."""
-    known = {asked.file for asked in all_asked(office)}
-    for path in named(office.next_folder, ASKED):
-        if path.name not in known:
-            files.remove(path)
+def all_waiting(office: Office, handed_in: HandedIn) -> Iterator[Waits]:
+    """What waits for whom, and what was approved and can be done."""
+    for part in handed_in.waiting:
+        command, place = COMMAND_OF[part.kind], str(part.start)
+        where, by = handed.places(part.start, part.end), who_did(office, part.who, part.login)
+        second = second_for(office, (command,), part.login)
+        yield Waits(f"{where}, {command} by {by}, waits for {second}", where, f"./day approve {place}", (place,), part)
+    for asked in all_asked(office):
+        own, others = who_did(office, asked.who, asked.login), approvers(office, asked)
+        if others:
+            by = ", ".join(map(office.people.in_words, others))
+            yield Waits(f"{asked}, asked for by {own}, is approved by {by}", str(asked), "give the command again", ())
+        else:
+            second = second_for(office, asked.commands, asked.login)
+            line = f"{asked}, asked for by {own}, waits for {second}"
+            yield Waits(line, str(asked), way(asked), asked.words)
+
+
+def told_of_new(office: Office, parts: list[Part]) -> list[str]:
+    """Which of these parts, that were just handed in, wait, in words."""
+    told = []
+    for part in parts:
+        if needs_second(office, part):
+            commands = (COMMAND_OF[part.kind],)
+            who, where = second_for(office, commands, office.login), handed.places(part.start, part.end)
+            wait, does = ("waits", "does") if part.end == part.start + 1 else ("wait", "do")
+            told.append(f"{where} {wait} for {who}, and {does} not count before: ./day approve {part.start}")
+    return told
+
+
+def files_of(office: Office, event: Event) -> Iterator[tuple[str, str, str, str]]:
+    """What was handed in for a settled day: the name, what is left of it, who did so, and when."""
+    filed = handed.for_a_day(office.store, event)
+    seconds = {own.place: own.login for own in filed.approved}
+    for part in filed.parts:
+        left, who = len(filed.left_of(part)), who_and_second(office, part.who, part.login, seconds.get(part.start, ""))
+        of = "" if left == part.count else f" of {part.count}"
+        yield part.name, f"{handed.NAMES.get(part.kind, FIRST_TEXT)} {left}{of}", who, part.at
+
+
+def who_did(office: Office, who: str, login: str) -> str:
+    """Who did something: the name that was given, and the login if that is another one."""
+    if not login:
+        return who
+    own = office.people.in_words(login)
+    return own if who in (people.person_of(login), people.owner_of(login)) else f"{who}, login {own}"
+
+
+def who_and_second(office: Office, who: str, login: str, approved: str) -> str:
+    """Who did something, and who approved it, if somebody had to."""
+    second = f", approved by {office.people.in_words(approved)}" if approved else ""
+    return f"{who_did(office, who, login)}{second}"

@@ -1,87 +1,103 @@
-"""What was handed in for the next day: the files of next/, and its own journal, which says what counts.
+"""What was handed in for the next day of a folder, or for one that is settled: by the events of its file.
 
-  base,LINE               the line of the folder's journal behind which this stands
-  handed,AT,WHO,KIND,PLACE,COUNT,DAY,FILE,SHA-256,NAME,LOGIN
-                          a file as it came, with COUNT items from PLACE on, whose name was NAME
-  of,FILE,SOURCE,SHA-256,NAME
-                          the rows of that file were made of SOURCE, a table or a mapping (office/sources.py)
-  taken,AT,WHO,PLACE,WHY,LOGIN
-                          the item at this place was taken back
-  approved,AT,WHO,PLACE,LOGIN
-                          of a settled day: who approved the items from this place on (office/approvals.py)
-
-A LOGIN counts as far as a file of that login says it too (office/said.py).
-
-KIND says what the items are: `first` instructions of the first day text, `do` instructions, `changes` accounts, `edits`
-differences (office/changes/edits.py), whose NAME is the reason, `work` working days. Places count the items of all
-files from 1, also of those that were taken back, so a place stays what it is. DAY is that of an undone day of which the
-file was: it comes into no earlier one. LOGIN is the system's name of who did it; older rows lack it. A file of such a
-name, NUMBER-KIND.csv, that the journal does not name is of a command that was interrupted: it does not count, and is
-removed. Any other file is refused, and stays as it is; those of approvals count by themselves.
+A `handed` event has the KIND of what was handed in: `first` instructions of the first day text, `do` instructions,
+`changes` accounts, `edits` differences (office/changes/edits.py), whose name is the reason, `work` working days. Places
+count the things of all events from 1, also those that were taken back, so a place stays what it is. What is left when a
+day is filed or undone is handed in again behind that, with the event that handed it in first: who did it is what that
+one says. The date of such an event is that of an undone day of which it was: it comes into no earlier one.
 """
 import datetime
-import re
+from collections.abc import Iterable, Iterator
 from dataclasses import dataclass, field
-from pathlib import Path
-from typing import Iterator
+from typing import NamedTuple
 
-from registry_tools.errors import FileFault
-from registry_tools.office import files, people, said, sources
-from registry_tools.office.files import replace
-from registry_tools.office.journal import row_of
-from registry_tools.office.sources import Source
+from registry_tools.office.office import Office
+from registry_tools.store.events import APPROVED, HANDED, NO_DATE, SOURCE, TAKEN, Event
+from registry_tools.store.file import Store
 from registry_tools.texts.day_text import DayText, day_of
-from registry_tools.texts.rows import rows_of
+from registry_tools.texts.rows import Rows, rows_of_text, text_of_rows
 
-NAME = "journal.csv"
 FIRST, DO, CHANGES, EDITS, WORK = KINDS = ("first", "do", "changes", "edits", "work")
-# What the items of a kind are called.
+# What is one file of each kind of a settled day.
+MERGED = (DO, CHANGES, EDITS, WORK)
+# What the things of a kind are called.
 NAMES = {DO: "instructions", CHANGES: "accounts", EDITS: "changes", WORK: "working days"}
-# A file that was handed in, and those that a command makes here, or begins to make.
-FILE = re.compile(r"[0-9]{4,}-[a-z]+\.csv", re.ASCII)
-OWN_FILE = re.compile(rf"{FILE.pattern}|{sources.NAME.pattern}|{said.NAME.pattern}|\..*\.new")
-# What was asked for, and who approved it: each is a file of its own, of the login that it names.
-ASKED, APPROVED = "asked", "approved"
-OF_APPROVALS = re.compile(rf"({ASKED}|{APPROVED})-[0-9a-z-]+\.csv", re.ASCII)
-# The outcome of each instruction at the last look, so that the next one can say what is new; and what waits behind the
-# last day.
-LOOKED, WAITS = "looked.csv", "waits.csv"
+# What rows were made of: a table, and a mapping that tells how it was written.
+TABLE, MAPPING = "table", "mapping"
 
 
-@dataclass
-class Part:
-    """A file that was handed in."""
+class Original(NamedTuple):
+    """Something that was handed in and made into rows: what it is, the ending of its name, its content, and its
+    name."""
 
-    at: str
-    who: str
-    kind: str
-    # The place of its first item, and how many there are.
-    start: int
-    count: int
-    # The date of the undone day of which it was, if there is one: it comes into no earlier one.
-    earliest: datetime.date | None
-    file: str
-    sum: str
+    what: str
+    ending: str
+    content: bytes
     name: str
-    # The system's name of who handed it in; nothing, in older rows.
-    login: str = ""
-    # What its rows were made of, if it was a table.
-    sources: list[Source] = field(default_factory=list)
+
+
+@dataclass(frozen=True)
+class Part:
+    """What was handed in together: the event that hands it in for this day, the one that handed it in first, and what
+    its rows were made of, if it was a table."""
+
+    event: Event
+    origin: Event
+    sources: tuple[Event, ...] = ()
+
+    @property
+    def at(self) -> str:
+        """When it was handed in."""
+        return self.origin.at
+
+    @property
+    def who(self) -> str:
+        """Who handed it in, by the name that was given."""
+        return self.origin.who
+
+    @property
+    def login(self) -> str:
+        """The login that handed it in; nothing, if nobody knows it."""
+        return self.origin.login
+
+    @property
+    def kind(self) -> str:
+        """What its things are."""
+        return self.event.kind
+
+    @property
+    def name(self) -> str:
+        """What it was called; of differences, the reason."""
+        return self.event.name
+
+    @property
+    def start(self) -> int:
+        """The place of its first thing."""
+        return self.event.start
+
+    @property
+    def count(self) -> int:
+        """How many things it has."""
+        return self.event.count
 
     @property
     def end(self) -> int:
-        """The place behind its last item."""
+        """The place behind its last thing."""
         return self.start + self.count
 
-    def is_of_later(self, date: datetime.date) -> bool:
-        """Whether the file is meant for a day behind this one."""
-        return self.earliest is not None and self.earliest > date
+    @property
+    def sum(self) -> str:
+        """The sum of its rows."""
+        return self.event.text
 
-    def row(self) -> str:
-        """The row of next/journal.csv."""
-        place, count, earliest = str(self.start), str(self.count), str(self.earliest or "")
-        fields = ["handed", self.at, self.who, self.kind, place, count, earliest, self.file, self.sum, self.name]
-        return row_of([*fields, self.login])
+    @property
+    def earliest(self) -> datetime.date | None:
+        """The date of the undone day of which it was, if there is one: it comes into no earlier one."""
+        return None if self.event.date == NO_DATE else self.event.date
+
+    def is_of_later(self, date: datetime.date) -> bool:
+        """Whether it is meant for a day behind this one."""
+        return self.earliest is not None and self.earliest > date
 
 
 def places(start: int, end: int) -> str:
@@ -89,9 +105,8 @@ def places(start: int, end: int) -> str:
     return f"places {start} to {end - 1}" if end > start + 1 else f"place {start}"
 
 
-@dataclass
-class Taken:
-    """An item that was taken back."""
+class Taken(NamedTuple):
+    """Something that was taken back."""
 
     at: str
     who: str
@@ -99,23 +114,14 @@ class Taken:
     why: str
     login: str = ""
 
-    def row(self) -> str:
-        """The row of next/journal.csv."""
-        return row_of(["taken", self.at, self.who, str(self.place), self.why, self.login])
 
-
-@dataclass
-class Approved:
-    """Who approved a file, by the place of its first item."""
+class Approved(NamedTuple):
+    """Who approved something that was handed in, by the place of its first thing."""
 
     at: str
     who: str
     place: int
     login: str
-
-    def row(self) -> str:
-        """The row of next/journal.csv."""
-        return row_of(["approved", self.at, self.who, str(self.place), self.login])
 
 
 @dataclass
@@ -131,134 +137,181 @@ class Item:
 
 @dataclass
 class HandedIn:
-    """What is in next/."""
+    """What was handed in for a day."""
 
-    folder: Path
-    base: str
+    store: Store
     parts: list[Part] = field(default_factory=list)
     taken: list[Taken] = field(default_factory=list)
     # Of what is here, what was approved; and what does not count before another login approves it.
     approved: list[Approved] = field(default_factory=list)
     waiting: list[Part] = field(default_factory=list)
-    # Who hands in more.
-    login: str = ""
-    # The rows of which no file of their login says the same.
-    unsaid: list[FileFault] = field(default_factory=list)
+    # What was read before, by its sum.
+    known: dict[str, Rows] = field(default_factory=dict)
+    firsts: dict[str, DayText] = field(default_factory=dict)
 
     @property
     def end(self) -> int:
-        """The place that the next item gets."""
+        """The place that the next thing gets."""
         return max((part.end for part in self.parts), default=1)
 
-    def text(self) -> str:
-        """The text of next/journal.csv."""
-        of_parts = (row for own in self.parts for row in (own.row(), *(each.row(own.file) for each in own.sources)))
-        rows = [*of_parts, *(own.row() for own in self.taken)]
-        return "\n".join([f"base,{self.base}", *rows, *(own.row() for own in self.approved), ""])
-
     def part_at(self, place: int) -> Part | None:
-        """The file that has an item at this place; None if none has."""
+        """What has a thing at this place; None if nothing has."""
         return next((part for part in self.parts if part.start <= place < part.end), None)
+
+    def of(self, parts: list[Part]) -> "HandedIn":
+        """The same with these parts alone."""
+        taken = [own for own in self.taken if any(part.start <= own.place < part.end for part in parts)]
+        approved = [own for own in self.approved if any(part.start == own.place for part in parts)]
+        waiting = [part for part in self.waiting if part in parts]
+        return HandedIn(self.store, parts, taken, approved, waiting, self.known, self.firsts)
 
     def until(self, date: datetime.date) -> "HandedIn":
         """What comes into the text of a day: all but what was of a later day, which was undone, and what waits for
         another login."""
-        parts = [part for part in self.parts if not self.is_left(part, date)]
-        taken = [taking for taking in self.taken if any(part.start <= taking.place < part.end for part in parts)]
-        approved = [own for own in self.approved if any(part.start == own.place for part in parts)]
-        return HandedIn(self.folder, self.base, parts, taken, approved)
+        return self.of([part for part in self.parts if not self.is_left(part, date)])
 
     def is_left(self, part: Part, date: datetime.date) -> bool:
-        """Whether a file stays here when this day is filed."""
+        """Whether a part stays here when this day is filed."""
         return part.is_of_later(date) or part in self.waiting
 
     def left_of(self, part: Part) -> list[int]:
-        """The places of a file that were not taken back."""
+        """The places of a part that were not taken back."""
         gone = {taking.place for taking in self.taken}
         return [place for place in range(part.start, part.end) if place not in gone]
 
+    def rows(self, part: Part) -> Rows:
+        """The rows of a part, as they were handed in."""
+        if part.sum not in self.known:
+            text = self.store.texts.get(part.sum).decode("utf-8-sig", "surrogateescape")
+            self.known[part.sum] = rows_of_text(part.name, text)
+        return self.known[part.sum]
+
+    def items_of(self, part: Part) -> Iterator[Item]:
+        """All things of a part, with the line on which each begins."""
+        source = self.rows(part)
+        if part.kind == FIRST:
+            first = next(place for place, row in enumerate(source.rows) if row == "end" or row.startswith("do,"))
+            starts = [*range(first, first + part.count)]
+        else:
+            starts = [place for place, row in enumerate(source.rows) if begins_item(part.kind, row)]
+        ends = [*starts[1:], None]
+        for place, (start, end) in enumerate(zip(starts, ends), part.start):
+            behind = (end or len(source.rows)) if part.kind == CHANGES else start + 1
+            own = [index for index in range(start, behind) if source.rows[index] != "end"]
+            yield Item(place, part, [source.rows[index] for index in own], [source.line(index) for index in own])
+
     def items(self, *kinds: str) -> Iterator[Item]:
         """What counts of these kinds, in order."""
-        gone = {taking.place for taking in self.taken}
         for part in self.parts:
             if part.kind in kinds:
-                yield from (item for item in items_of(self.folder, part) if item.place not in gone)
+                yield from self.items_left(part)
+
+    def items_left(self, part: Part) -> Iterator[Item]:
+        """What counts of a part."""
+        left = {*self.left_of(part)}
+        return (item for item in self.items_of(part) if item.place in left)
 
     @property
     def first(self) -> Part | None:
-        """The file of the first day text, if it is here."""
+        """The first day text, if it is here."""
         return next((part for part in self.parts if part.kind == FIRST), None)
 
     def first_text(self) -> DayText | None:
-        """The first day text, if it is here."""
-        return day_of(rows_of(self.folder / self.first.file)) if self.first else None
+        """The first day text, if it is here, read once."""
+        part = self.first
+        if part is None:
+            return None
+        if part.sum not in self.firsts:
+            # (reading takes the row `end` away)
+            rows = self.rows(part)
+            self.firsts[part.sum] = day_of(Rows(rows.path, [*rows.rows], rows.lines))
+        return self.firsts[part.sum]
 
-    def sources(self) -> Iterator[Source]:
-        """What the rows of tables were made of."""
-        return (own for part in self.parts for own in part.sources)
-
-    def done(self) -> list["Part | Taken"]:
-        """All that somebody did here."""
-        return [*self.parts, *self.taken]
-
-    def say(self) -> None:
-        """Has the login that writes here say what it has done, before it counts."""
-        own = people.owner_of(self.login)
-        done = [each.row() for each in self.done() if each.login and people.owner_of(each.login) == own]
-        if done:
-            said.keep(self.folder, own, self.base, done)
-
-    def keep(self) -> None:
-        """Writes what is said here, in a folder that does not count yet."""
-        self.say()
-        replace(self.folder / NAME, self.text().encode("utf-8", "surrogateescape"))
-
-    def make_count(self) -> str:
-        """Makes what is said here count, in one step. Answers what could not be done behind it, in words."""
-        self.say()
-        return files.step(self.folder / NAME, self.text().encode("utf-8", "surrogateescape"))
-
-    def unnamed(self) -> Iterator[Path]:
-        """The files that do not count."""
-        named = {NAME, LOOKED, WAITS, *(part.file for part in self.parts), *(own.file for own in self.sources())}
-        named |= {said.name_of(people.owner_of(own.login)) for own in self.done() if own.login}
-        there = (path for path in files.listed(self.folder) if path.name not in named)
-        return (path for path in there if not OF_APPROVALS.fullmatch(path.name))
-
-    def remove_unnamed(self) -> None:
-        """Removes files that do not count: they are of a command that did not come to its end."""
-        for path in self.unnamed():
-            files.remove(path)
-
-    def must_be_of_commands(self) -> None:
-        """Ends the command if a file lies here that no command has made: with the next day it would be gone."""
-        for path in self.unnamed():
-            if not OWN_FILE.fullmatch(path.name):
-                expected = "no such file: move it to another folder, and ./day hand-in takes it from there"
-                raise FileFault(path, 0, "", "a file that nobody handed in", expected)
-
-
-def names_of_approvals(folder: Path) -> list[str]:
-    """The files that were asked for, or approve something."""
-    return [path.name for path in files.listed(folder) if OF_APPROVALS.fullmatch(path.name)]
-
-
-def items_of(folder: Path, part: Part) -> Iterator[Item]:
-    """The items of a file, with the line on which each begins."""
-    source = rows_of(folder / part.file)
-    if part.kind == FIRST:
-        first = next(place for place, row in enumerate(source.rows) if row == "end" or row.startswith("do,"))
-        starts = [*range(first, first + part.count)]
-    else:
-        starts = [place for place, row in enumerate(source.rows) if begins_item(part.kind, row)]
-    ends = [*starts[1:], None]
-    for place, (start, end) in enumerate(zip(starts, ends), part.start):
-        behind = (end or len(source.rows)) if part.kind == CHANGES else start + 1
-        own = [index for index in range(start, behind) if source.rows[index] != "end"]
-        yield Item(place, part, [source.rows[index] for index in own], [source.line(index) for index in own])
+    def contents(self) -> dict[str, bytes]:
+        """What counts, as one text of each kind."""
+        return {kind: text_of_rows([row for item in self.items(kind) for row in item.rows]) for kind in MERGED}
 
 
 def begins_item(kind: str, row: str) -> bool:
-    """Whether a row is the first one of an item."""
+    """Whether a row is the first one of a thing."""
     begins = {DO: ("do,",), CHANGES: ("account,",), EDITS: ("account,", "rules,"), WORK: ("work,",)}
     return row.startswith(begins[kind])
+
+
+# By the events.
+
+
+def for_the_next_day(store: Store) -> HandedIn:
+    """What was handed in since the last day was filed or undone."""
+    return behind(store, store.events.base)
+
+
+def for_a_day(store: Store, filed: Event) -> HandedIn:
+    """What came into a settled day: what stood before it, without what was handed in again behind it."""
+    there = behind(store, filed.base)
+    again = {own.origin for own in store.events.since(filed.id) if own.what == HANDED}
+    return there.of([part for part in there.parts if part.origin.id not in again])
+
+
+def behind(store: Store, base: int) -> HandedIn:
+    """What was handed in behind an event that filed or undid a day, and before the next one."""
+    own = store.events.since(base)
+    given = [event for event in own if event.what == HANDED]
+    last = next((event for event in reversed(given) if event.kind == FIRST), None)
+    parts = [part_of(store, event) for event in given if event.kind != FIRST or event is last]
+    taken = [Taken(event.at, event.who, event.start, event.why, event.login) for event in own if event.what == TAKEN]
+    by = {event.of: event for event in own if event.what == APPROVED and event.of is not None}
+    starts = {part.event.id: part.start for part in parts}
+    approved = [Approved(own.at, own.who, starts[of], own.login) for of, own in by.items() if of in starts]
+    return HandedIn(store, parts, taken, approved)
+
+
+def part_of(store: Store, event: Event) -> Part:
+    """A part, with the event that handed it in first, and what its rows were made of."""
+    there = store.events
+    origin = there.of_id(event.origin)
+    sources = []
+    for own in there.all[origin.id :]:
+        if own.what != SOURCE or own.of != origin.id:
+            break
+        sources.append(own)
+    return Part(event, origin, tuple(sources))
+
+
+# Handing in.
+
+
+def put(office: Office, there: HandedIn, kind: str, content: bytes, count: int, name: str,
+        originals: Iterable[Original] = ()) -> Part:  # fmt: skip
+    """Hands something in, in a change of the file, with what it was made of."""
+    store = office.store
+    start = 1 if kind == FIRST else there.end
+    event = office.add(HANDED, kind=kind, name=name, start=start, count=count, text=store.texts.put(content))
+    for own in originals:
+        text = store.texts.put(own.content)
+        office.add(SOURCE, of=event.id, kind=f"{own.what}{own.ending}", name=own.name, text=text)
+    part = part_of(store, event)
+    there.parts.append(part)
+    return part
+
+
+def put_again(
+    office: Office, there: HandedIn, old: Part, content: bytes, count: int, earliest: datetime.date | None
+) -> Part:
+    """Hands in again what was handed in before: behind a day that was filed or undone."""
+    event = office.add(
+        HANDED, of=old.origin.id, kind=old.kind, name=old.name, start=there.end, count=count,
+        text=office.store.texts.put(content), date=earliest or NO_DATE,
+    )  # fmt: skip
+    part = part_of(office.store, event)
+    there.parts.append(part)
+    return part
+
+
+def put_left(office: Office, there: HandedIn, old: HandedIn, parts: Iterable[Part]) -> None:
+    """Hands in again what was not taken back of these parts."""
+    for part in parts:
+        left = [*old.items_left(part)]
+        if left:
+            content = text_of_rows([row for item in left for row in item.rows])
+            put_again(office, there, part, content, len(left), part.earliest)

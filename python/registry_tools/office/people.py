@@ -19,8 +19,8 @@ from dataclasses import dataclass, field
 from pathlib import Path
 
 from registry_tools.errors import FileFault, must_be_known, RightsFault, shown, WordsFault
-from registry_tools.office.files import sum_of
 from registry_tools.office.layout import SETTINGS
+from registry_tools.store.texts import sum_of
 
 SECTION, FOUR_EYES, COMMANDS = "people", "four eyes", "commands"
 HAND_IN, CHANGE, CLOSE, RELEASE, LOOK, PROXY = RIGHTS = ("hand in", "change", "close", "release", "look", "proxy")
@@ -117,12 +117,6 @@ def person_of(login: str) -> str:
 def owner_of(login: str) -> str:
     """The login that the system knows."""
     return login.partition(SPEAKS_FOR)[0]
-
-
-def passed_on(login: str, by: str) -> str:
-    """A login as the one says it that puts what it did elsewhere."""
-    own = owner_of(by)
-    return login if not login or not by or owner_of(login) == own else f"{own}{SPEAKS_FOR}{login}"
 
 
 def login_of(uid: int) -> str:

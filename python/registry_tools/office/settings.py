@@ -3,10 +3,11 @@ import configparser
 from dataclasses import dataclass
 from pathlib import Path
 
+from registry_tools import opening
 from registry_tools.calendars import deadlines
 from registry_tools.calendars.deadlines import DueDates
 from registry_tools.errors import FileFault, must_be_known, of_file, shown
-from registry_tools.office import files, people
+from registry_tools.office import people
 from registry_tools.office.people import People
 
 LAYOUT, SECTION = "1", "office"
@@ -53,7 +54,10 @@ def words_of(is_so: bool) -> str:
 def read(path: Path) -> Settings:
     """The settings of a folder. Raises FileFault if they are none."""
     parser = configparser.ConfigParser(interpolation=None)
-    text = files.bytes_in(path).decode("utf-8-sig", "surrogateescape")
+    try:
+        text = opening.read(path).decode("utf-8-sig", "surrogateescape")
+    except OSError as error:
+        raise of_file(path, f"it cannot be read: {error.strerror}") from None
     try:
         parser.read_string(text, str(path))
     except configparser.Error as error:

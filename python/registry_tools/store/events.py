@@ -11,6 +11,7 @@ import sqlite3
 from collections.abc import Iterator
 from dataclasses import dataclass, fields, replace
 from pathlib import Path
+from typing import Any
 
 from registry_tools.errors import FileFault, raise_first, shown, visible
 from registry_tools.store.texts import sum_of
@@ -24,6 +25,8 @@ CHANGING = (FILED, UNDONE)
 ASKING = (ASKED, APPROVED)
 # What a journal of days has: what is not of the next day alone.
 OF_DAYS = (FILED, UNDONE, RELEASED, LABELLED)
+# Of an event without a day.
+NO_DATE = datetime.date.min
 # So many digits of the last line are the short name of a folder as it stands.
 HEAD_DIGITS = 12
 BACK = "somebody changed the file by other ways than commands: put it back from a copy"
@@ -44,7 +47,7 @@ class Event:
     who: str = ""
     why: str = ""
     base: int = 0
-    day: datetime.date | None = None
+    date: datetime.date = NO_DATE
     of: int | None = None
     kind: str = ""
     name: str = ""
@@ -66,12 +69,6 @@ class Event:
     id: int = 0
 
     @property
-    def date(self) -> datetime.date:
-        """The settlement day, of an event that has one."""
-        assert self.day is not None
-        return self.day
-
-    @property
     def origin(self) -> int:
         """Of something handed in, the event that handed it in first."""
         return self.id if self.of is None else self.of
@@ -79,7 +76,7 @@ class Event:
     @functools.cached_property
     def values(self) -> tuple[object, ...]:
         """What its columns have, in their order, without `id` and `line`."""
-        return self.before, *(value_of(name, getattr(self, FIELD_OF.get(name, name))) for name in COLUMNS)
+        return self.before, *(value_of(name, getattr(self, name)) for name in COLUMNS)
 
     def own_line(self) -> str:
         """The sum of what it says with the line before it."""
@@ -87,9 +84,8 @@ class Event:
         return sum_of(text.encode("utf-8", "surrogateescape"))
 
 
-# The columns between `before` and `line`, and the field of the one that is called otherwise.
-FIELD_OF = {"date": "day"}
-COLUMNS = tuple("date" if own.name == "day" else own.name for own in fields(Event))[:-3]
+# The columns between `before` and `line`.
+COLUMNS = tuple(own.name for own in fields(Event))[:-3]
 ALL = ("id", "before", *COLUMNS, "line")
 # The columns that have nothing in place of an empty text.
 MAY_LACK = ("text", "report", "waiting", "waits")
@@ -98,7 +94,7 @@ MAY_LACK = ("text", "report", "waiting", "waits")
 def value_of(name: str, value: object) -> object:
     """A value as its column has it."""
     if isinstance(value, datetime.date):
-        return str(value)
+        return None if value == NO_DATE else str(value)
     if name in MAY_LACK:
         return value or None
     # (a line has no letter that nobody sees, and a name may be no UTF-8)
@@ -108,9 +104,10 @@ def value_of(name: str, value: object) -> object:
 def event_of(row: sqlite3.Row | tuple[object, ...]) -> Event:
     """The event of a row, with all columns in their order. Raises ValueError or TypeError if it can't be one."""
     said = dict(zip(ALL, row))
-    day = said.pop("date")
     texts = {name: said[name] or "" for name in MAY_LACK}
-    return Event(**{**said, **texts, "day": datetime.date.fromisoformat(str(day)) if day is not None else None})  # type: ignore[arg-type]
+    date = NO_DATE if said["date"] is None else datetime.date.fromisoformat(str(said["date"]))
+    own: dict[str, Any] = {**said, **texts, "date": date}
+    return Event(**own)
 
 
 class Events:
@@ -177,7 +174,7 @@ class Events:
 
     def undone(self, date: datetime.date) -> Event | None:
         """The last event that took a day of this date back."""
-        return next((own for own in reversed(self.all) if (own.what, own.day) == (UNDONE, date)), None)
+        return next((own for own in reversed(self.all) if (own.what, own.date) == (UNDONE, date)), None)
 
     def of_days(self) -> list[Event]:
         """The events of days and names, without those of the next day alone."""
@@ -209,7 +206,7 @@ def faults_of(db: sqlite3.Connection, events: Events) -> Iterator[FileFault]:
             yield FileFault(events.path, 0, f"{where}, line", shown(event.line), f"{line}: {BACK}")
         wrong = does_not_follow(events, event)
         if wrong:
-            yield FileFault(events.path, 0, where, f"{event.what} {event.day or ''}".strip(), wrong)
+            yield FileFault(events.path, 0, where, event.what, wrong)
         events.append(event)
 
 
@@ -219,18 +216,18 @@ def does_not_follow(events: Events, event: Event) -> str:
     if event.base != events.base:
         return f"the base {events.base}"
     if event.what == FILED:
-        if event.day is None or (last and event.date <= last.date):
+        if event.date == NO_DATE or (last and event.date <= last.date):
             return f"a day after {last.date}" if last else "a day"
         if last and event.first != last.next:
             return f"the first record {last.next}"
     elif event.what == UNDONE:
-        if last is None or (event.of, event.day, event.first, event.next) != (last.id, last.day, last.first, last.next):
+        if last is None or (event.of, event.date, event.first, event.next) != (last.id, last.date, last.first, last.next):
             return f"{last.date}, the last day" if last else "a day that was filed before"
         if events.is_released():
             return f"no undoing of {last.date}, which was released"
     elif event.what == RELEASED:
         day = next((own for own in events.days if own.id == event.of), None)
-        if day is None or (event.day, event.first, event.next) != (day.day, day.first, day.next):
+        if day is None or (event.date, event.first, event.next) != (day.date, day.first, day.next):
             return "a day that is filed, with its records"
     return ""
 

@@ -1,0 +1,102 @@
+"""An open folder of days: its settings, its file, and who works with it."""
+import contextlib
+from collections.abc import Iterator
+from dataclasses import dataclass
+from pathlib import Path
+from typing import Any
+
+from registry_tools.errors import LateFault, WordsFault, shown
+from registry_tools.office import people
+from registry_tools.office.people import People
+from registry_tools.office.settings import Settings
+from registry_tools.store.events import (
+    APPROVED, ASKED, FILED, HANDED, LABELLED, RELEASED, TAKEN, UNDONE, Event, Events,
+)  # fmt: skip
+from registry_tools.store.file import Store
+
+# What somebody is told who looked at the folder before somebody else changed it.
+CAME_LATE = "somebody changed the folder since it was looked at, and nothing was done"
+OF_DAYS = (FILED, UNDONE, RELEASED, LABELLED)
+FIRST = "first"
+
+
+@dataclass(frozen=True)
+class By:
+    """By whom something is done: the login of the process, the name that was given, and the state of the folder that
+    somebody has seen before, if that is asked."""
+
+    login: str
+    who: str
+    seen: str | None = None
+
+
+@dataclass
+class Office:
+    """An open folder."""
+
+    path: Path
+    settings: Settings
+    store: Store
+    # The login that changes it, and the name that was given.
+    login: str = ""
+    who: str = ""
+
+    @property
+    def events(self) -> Events:
+        """What was done to its days."""
+        return self.store.events
+
+    @property
+    def people(self) -> People:
+        """Who may do what."""
+        return self.settings.people
+
+    def last(self) -> Event | None:
+        """The last day that is filed."""
+        return self.events.last()
+
+    def name_of(self, event: Event, key: str) -> str:
+        """How a text of a settled day is called: as `./day unpack` writes it."""
+        return f"{self.store.path}/{event.date}/{key}.csv"
+
+    def add(self, what: str, **said: Any) -> Event:
+        """Adds an event, in a change, by the login that makes it."""
+        return self.store.add(Event(what, login=self.login, who=self.who, people=self.people.sum(), **said))
+
+    @contextlib.contextmanager
+    def changing(self, command: str, by: By) -> Iterator[None]:
+        """The block changes the folder, whole or not at all. Ends the command if somebody has `seen` the folder in
+        another state than it is in now, or if office.ini does not allow the command to this login."""
+        with self.store.change():
+            self.login, self.who = by.login, by.who
+            people.must_be_allowed(self.people, self.login, command)
+            if by.seen is not None and by.seen != self.state():
+                raise LateFault(f"{CAME_LATE}: {'; '.join(self.done_since(by.seen))}")
+            yield
+
+    def state(self) -> str:
+        """What a change builds on: after each change it is another one."""
+        return self.events.last_line
+
+    def done_since(self, state: str) -> Iterator[str]:
+        """What was done behind a state of the folder that somebody has seen, in words."""
+        lines = [event.line for event in self.events.all]
+        if state not in lines:
+            raise WordsFault(f"--seen {shown(state)} is no state of this folder, and nothing was done: look once more")
+        for event in self.events.all[lines.index(state) + 1 :]:
+            if event.of is None or event.what != HANDED:
+                yield from told_of(event)
+
+
+def told_of(event: Event) -> Iterator[str]:
+    """What somebody else did, in words; of a table that came with rows, nothing."""
+    if event.what in OF_DAYS:
+        yield f"{event.date} was {event.what} by {event.who}{f': {event.why}' if event.why else ''}"
+    elif event.what == HANDED:
+        yield "another first text stands there" if event.kind == FIRST else f"{event.name} was handed in by {event.who}"
+    elif event.what == TAKEN:
+        yield f"place {event.start} was taken back by {event.who}: {event.why}"
+    elif event.what == ASKED:
+        yield f"{event.kind} {event.date} was asked for by {event.who}"
+    elif event.what == APPROVED:
+        yield f"{event.name} was approved by {event.who}"
