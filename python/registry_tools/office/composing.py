@@ -2,29 +2,32 @@
 import contextlib
 import datetime
 import itertools
-import tempfile
+import re
+from collections.abc import Iterator
 from dataclasses import dataclass, field, replace
-from pathlib import Path
-from typing import Iterator
 
 from registry_tools import tables
-from registry_tools.calendars import dates, working_days as calendars
-from registry_tools.errors import FileFault, WordsFault, raise_first
-from registry_tools.notes import BY_HAND, Notes
-from registry_tools.office import files, next as next_day, past
-from registry_tools.office.changes import edits
-from registry_tools.office.changes.edits import EditFault
-from registry_tools.office.folder import Office
-from registry_tools.office.handed import CHANGES, DO, EDITS, FIRST, KINDS, WORK, HandedIn, Item
-from registry_tools.office.journal import Event
-from registry_tools.office.merged import Merged, contents_of, edited_changes, edits_in, written
+from registry_tools.calendars import working_days as calendars
+from registry_tools.errors import FileFault, WordsFault, shown
+from registry_tools.notes import BY_HAND, LOOK, Notes
+from registry_tools.office import edits, next as next_day
+from registry_tools.office.edits import Edit, EditFault
+from registry_tools.office.handed import CHANGES, DO, EDITS, FIRST, KINDS, NAMES, WORK, HandedIn, Item
+from registry_tools.office.office import Office
 from registry_tools.second import faults, rules
+from registry_tools.store import past
+from registry_tools.store.events import Event
 from registry_tools.texts import pending
 from registry_tools.texts.accounts import Accounts, Reader
 from registry_tools.texts.day_text import DayText, day_of
 from registry_tools.texts.repeated import tell_dates
 from registry_tools.texts.report import Report
-from registry_tools.texts.rows import Rows, rows_of_text, text_of_rows
+from registry_tools.texts.rows import KeptText, Rows, rows_of_text, text_of_rows
+
+# How a row begins behind which the rows of an account stand.
+ACCOUNT = re.compile("account,([0-9]{1,9}),")
+# How the text that is made is called.
+NEXT_DAY = "the next day"
 
 
 @dataclass
@@ -40,8 +43,6 @@ class NextDay:
     entered: list[pending.Waiting]
     # The instructions that were handed in, in order.
     new: list[Item]
-    # The merged contents of what was handed in, by kind.
-    contents: dict[str, bytes]
     notes: list[str] = field(default_factory=list)
     # The day before it, if there is one.
     before: tuple[DayText, Report] | None = None
@@ -50,17 +51,15 @@ class NextDay:
         """The pending file of the day."""
         return pending.text_of(self.waiting, pending.Made(self.date, self.first)).encode("utf-8", "surrogateescape")
 
-    def day(self, path: Path) -> DayText:
+    def day(self, path: str = NEXT_DAY) -> DayText:
         """The text, read again with all checks. A fault names the path."""
         known = self.before[1].known(self.before[0]) if self.before else None
-        return day_of(rows_of_text(str(path), self.text.decode("utf-8", "surrogateescape")), known)
+        return day_of(rows_of_text(path, self.text.decode("utf-8", "surrogateescape")), known)
 
 
-def settlement_date(word: str | None, office: Office, handed_in: HandedIn) -> datetime.date:
-    """The settlement day: the named one, or the first working day behind the last day."""
+def settlement_date(office: Office, handed_in: HandedIn) -> datetime.date:
+    """The settlement day that comes next: the first working day behind the last day."""
     first = handed_in.first_text()
-    if word is not None:
-        return dates.date_of("--date", word)
     if first:
         return first.head.date
     last = office.last()
@@ -83,10 +82,10 @@ def settlement_date(word: str | None, office: Office, handed_in: HandedIn) -> da
 def ways_on(office: Office, handed_in: HandedIn, date: datetime.date) -> str:
     """What to say of a date that cannot be the next one: who closed it, which one comes next, and what takes the last
     one back."""
-    last, event = last_day(office), office.journal.day_of(date)
+    last, event = last_day(office), office.events.day_of(date)
     closed = f": {event.who} closed {date} at {event.at}" if event else ""
-    back = "" if office.journal.is_released() else f", and ./day undo {last.date} takes the last one back"
-    return f"{closed}; the next one is {settlement_date(None, office, handed_in)}{back}"
+    back = "" if office.events.is_released() else f", and ./day undo {last.date} takes the last one back"
+    return f"{closed}; the next one is {settlement_date(office, handed_in)}{back}"
 
 
 def working_days(office: Office, last: Event, handed_in: HandedIn) -> list[datetime.date]:
@@ -105,14 +104,12 @@ def last_day(office: Office) -> Event:
 
 def last_pair(office: Office, has_book: bool = True) -> tuple[DayText, Report]:
     """The last day of a folder, and its report; without the accounts before the day, if nobody asks for them."""
-    last = last_day(office)
-    raise_first(office.changed_files(last))
-    return past.read(past.pair_of(office, last), None, has_book)
+    return past.read(past.pair_of(office.store, last_day(office)), None, has_book)
 
 
 def filed_calendar(office: Office, event: Event) -> list[datetime.date]:
     """The working days of a filed day. Only its first rows are unpacked."""
-    lines = files.packed_lines(past.as_filed(office, event, "day"))
+    lines = office.store.texts.lines(event.text)
     rows = itertools.takewhile(lambda row: not row.startswith(("account,", "do,", "end")), lines)
     return [datetime.date.fromisoformat(row.split(",")[1]) for row in rows if row.startswith("work,")]
 
@@ -147,8 +144,7 @@ def first_day(first: DayText, handed_in: HandedIn, date: datetime.date) -> NextD
     next_day.check_count(first.head.next_record, len(first.instructions) + len(new))
     rows = [*first.source.rows[:-1], *(row for item in new for row in item.rows), "end"]
     items, notes = [*handed_in.items(FIRST), *new], [*about_first(first, new)]
-    contents, first_record = contents_of(handed_in), first.head.next_record
-    return NextDay(date, first_record, text_of_rows(rows), [], [], items, contents, notes)
+    return NextDay(date, first.head.next_record, text_of_rows(rows), [], [], items, notes)
 
 
 def about_first(first: DayText, new: list[Item]) -> Iterator[str]:
@@ -169,36 +165,36 @@ def later_day(office: Office, handed_in: HandedIn, date: datetime.date) -> NextD
     day, report = last_pair(office, has_book=False)
     if date <= last.date:
         raise WordsFault(f"--date {date} is not later than {last.date}, the last day{ways_on(office, handed_in, date)}")
-    contents = contents_of(handed_in)
-    with tempfile.TemporaryDirectory() as work:
-        paths = {kind: written(Path(work) / f"{kind}.csv", content) for kind, content in contents.items()}
-        merged = Merged(work, handed_in)
-        try:
-            composed = later_text(day, report, date, paths, str(office.file(last, "waiting")), work)
-        except FileFault as fault:
-            if str(fault.path).startswith(f"{work}/"):
-                item, _ = merged.item(str(fault.path), fault.line)
-                fault.place = item.place if item else None
-                fault.path, fault.line = merged.origin(str(fault.path), fault.line)
-            raise
-        except EditFault as fault:
-            place = next((item.place for item in handed_in.items(EDITS) if item.rows[0] == fault.edit.row()), None)
-            raise EditFault(fault.edit, fault.why, place) from None
-        composed.notes = [*map(merged.named_in, composed.notes)]
-    return replace(composed, new=[*handed_in.items(DO)], contents=contents, before=(day, report))
+    contents, name = handed_in.contents(), f"{office.store.path}/next"
+    merged = Merged(name, handed_in)
+    try:
+        composed = later_text(day, report, date, contents, past.kept(office.store, last, "waiting"), name)
+    except FileFault as fault:
+        if str(fault.path).startswith(f"{name}/"):
+            item, _ = merged.item(str(fault.path), fault.line)
+            fault.place = item.place if item else None
+            fault.path, fault.line = merged.origin(str(fault.path), fault.line)
+        raise
+    except EditFault as fault:
+        place = next((item.place for item in handed_in.items(EDITS) if item.rows[0] == fault.edit.row()), None)
+        raise EditFault(fault.edit, fault.why, place) from None
+    composed.notes = [*map(merged.named_in, composed.notes)]
+    return replace(composed, new=[*handed_in.items(DO)], before=(day, report))
 
 
 def later_text(
-    day: DayText, report: Report, date: datetime.date, paths: dict[str, str | None], waits: str, work: str | None = None
+    day: DayText, report: Report, date: datetime.date, contents: dict[str, bytes], waits: str, name: str
 ) -> NextDay:
-    """The text of a later day. What is made on the way lies in the folder `work`, if one is named."""
+    """The text of a later day, made of what was handed in: a text of each kind. A fault or note names `name`/KIND.csv.
+    """
+    paths = {kind: kept(f"{name}/{kind}.csv", content) for kind, content in contents.items()}
     notes = Notes()
     calendar = calendars.next_calendar(day, paths[WORK], notes)
-    made = edits_in(paths[EDITS])
+    made = edits_in(f"{name}/{EDITS}.csv", contents[EDITS])
     heading = edits.edited_heading(made, [*next_day.heading_of(day, date, report.next_record, calendar)])
     head = head_of(heading)
-    with edited_changes(made, report, paths[CHANGES], work) as changes:
-        book = next_day.book_with_changes(day, report, changes, notes, head.periods)
+    changes = edited_changes(made, report, paths[CHANGES], name)
+    book = next_day.book_with_changes(day, report, changes, notes, head.periods)
     notes.lines += [
         f"{BY_HAND}: the rules: {difference}"
         for difference in edits.rows_gone_and_come(day.heading, heading)
@@ -215,7 +211,7 @@ def later_text(
     rows = heading
     rows += report.book_rows if book is report.book else [row for block in book.values() for row in block.rows]
     rows += [*(waits.instruction.row for waits in entered), *new.rows, "end"]
-    return NextDay(date, report.next_record, text_of_rows(rows), waiting, entered, [], {}, notes.lines)
+    return NextDay(date, report.next_record, text_of_rows(rows), waiting, entered, [], notes.lines)
 
 
 def about_past(before: DayText, calendar: list[datetime.date], head: rules.Day) -> Iterator[str]:
@@ -232,3 +228,85 @@ def head_of(heading: list[str]) -> rules.Day:
     for place in range(len(heading)):
         reader.add(place)
     return rules.day_of_fields(row.split(",") for row in heading)
+
+
+# What was handed in, as one text of each kind.
+
+
+def kept(name: str, content: bytes) -> KeptText | None:
+    """A text by its name; none, if there is nothing in it."""
+    return KeptText(name, lambda: content) if content else None
+
+
+class Merged:
+    """The texts that are merged of what was handed in. Nobody finds them later: a message names what was handed in,
+    with its line."""
+
+    def __init__(self, name: str, handed_in: HandedIn) -> None:
+        self.rows = {
+            f"{name}/{kind}.csv": [(item, line) for item in handed_in.items(kind) for line in item.lines]
+            for kind in (DO, CHANGES, WORK)
+        }
+        self.path = re.compile(rf"({re.escape(name)}/(?:\w+/)?\w+\.csv)(?::([0-9]+))?")
+
+    def origin(self, path: str, line: int) -> tuple[str, int]:
+        """Where a row of a merged text came from. A block of several changes has no single line."""
+        item, own = self.item(path, line)
+        if item:
+            return item.part.name, own
+        return f"the {NAMES[path.rpartition('/')[2].removesuffix('.csv')]} handed in", 0
+
+    def item(self, path: str, line: int) -> tuple[Item | None, int]:
+        """What was handed in that has a row of a merged text, and the line where it has it."""
+        rows = self.rows.get(path, [])
+        return rows[line - 1] if 0 < line <= len(rows) else (None, 0)
+
+    def named_in(self, note: str) -> str:
+        """A note with the names of what was handed in; one that asks somebody to look at a row has its place, too, by
+        which it is taken back."""
+
+        def where(found: re.Match[str]) -> str:
+            path, row = found[1], int(found[2] or 0)
+            name, line = self.origin(path, row)
+            item, _ = self.item(path, row)
+            place = f" (place {item.place})" if item and note.startswith(LOOK) else ""
+            return f"{name}:{line}{place}" if line else name
+
+        return self.path.sub(where, note)
+
+
+def edits_in(name: str, content: bytes) -> list[Edit]:
+    """The differences of a text, which a command of the folder wrote: each other row is a fault of it."""
+    made = []
+    for line, row in enumerate(content.decode("utf-8", "surrogateescape").splitlines(), 1):
+        try:
+            made.append(edits.edit_of(row))
+            edits.must_be_readable(made[-1])
+        except WordsFault:
+            raise FileFault(name, line, "row", shown(row), "a change by hand, as ./day change writes it") from None
+    return made
+
+
+def blocks_in(text: KeptText | None) -> dict[int, list[str]]:
+    """The rows of each account of a text of accounts, which need not rise."""
+    blocks: dict[int, list[str]] = {}
+    own: list[str] | None = None
+    rows = text.content().decode("utf-8", "surrogateescape").splitlines() if text is not None else []
+    for line, row in enumerate(rows, 1):
+        begins = ACCOUNT.match(row)
+        if begins:
+            own = blocks[int(begins[1])] = []
+        if own is None or (row.startswith("account,") and not begins):
+            raise FileFault(str(text), line, "row", shown(row), "accounts, as they were handed in")
+        own.append(row)
+    return blocks
+
+
+def edited_changes(made: list[Edit], report: Report, text: KeptText | None, name: str) -> KeptText | None:
+    """The accounts that are changed by hand: by whole blocks, and by differences. Without differences, the text of
+    blocks, if its accounts rise."""
+    blocks = blocks_in(text)
+    if not any(edit.number for edit in made) and [*blocks] == sorted(blocks):
+        return text
+    changed = edits.edited_blocks(made, report, blocks)
+    return kept(f"{name}/edited/{CHANGES}.csv", text_of_rows([row for rows in changed.values() for row in rows]))

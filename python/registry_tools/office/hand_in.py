@@ -1,97 +1,69 @@
-"""Hands in instructions, working days, or accounts that are new or changed by hand, for the next day of a folder.
-
-What a file has is told by its first row: do, work or account rows, with or without a row end; or the names of columns,
-as ./day form writes them. A table may be csv, .xlsx or .ods, and somebody else's by --mapping (./day import --help
-shows one): the folder keeps it as it came, with its sum, beside the rows that are made of it. Each row is looked at. An
-instruction that a settled day has done, that waits, or that was handed in is refused, and so is an account that the
-folder has had with the same rows: unless --again names the row, by FILE:LINE or by the PLACE of the one that was handed
-in. What a settled day refused may come again, and is told. Then the next day is tried as it stands: what would be
-refused is told, and stays handed in.
-
-Each instruction, account or working day gets a place, by which ./day take-back takes it back.
-
-exit status: 0 if nothing of it would be refused, 1 if something would.
-"""
-import argparse
+"""Hands in instructions, working days, or accounts that are new or changed by hand, for the next day of a folder."""
+from collections.abc import Iterator, Sequence
 from dataclasses import dataclass, field
-from pathlib import Path
-from typing import NamedTuple, Sequence
+from typing import NamedTuple
 
 from registry_tools.calendars.due_days import NOT_DUE
 from registry_tools.errors import FileFault, WordsFault
-from registry_tools.office import (
-    approvals, awaited, composing, files, folder, had, handed, handed_files, incoming, labels, people, trial, words,
-)  # fmt: skip
+from registry_tools.office import approvals, composing, earlier, handed, incoming, labels, people, trial
 from registry_tools.office.composing import NextDay
-from registry_tools.office.folder import Office
-from registry_tools.office.given import Given, add_named, given
-from registry_tools.office.handed import CHANGES, DO, HandedIn, Part, places
-from registry_tools.office.incoming import Forms, Incoming
+from registry_tools.office.handed import CHANGES, DO, HandedIn, Part
+from registry_tools.office.incoming import Forms, Given, Incoming
+from registry_tools.office.office import By, Office
 from registry_tools.office.waits import waits_of
-
-EXAMPLE = "./day hand-in examples/week/tuesday-do.csv examples/week/tuesday-work.csv --office out/office"
-
-
-def add_words(parser: argparse.ArgumentParser) -> None:
-    """Tells a parser the words of the command."""
-    parser.add_argument("files", metavar="FILE", nargs="+", help="do rows, work rows or account blocks, or a table")
-    again = "a row that is meant once more, by its line, or by the place of the one that was handed in"
-    parser.add_argument("--again", metavar="FILE:LINE|PLACE", nargs=1, default=[], help=again)
-    incoming.add_words(parser)
-    add_named(parser)
-    words.add_office(parser)
-    words.add_who(parser)
+from registry_tools.store.texts import sum_of
 
 
-def run(said: argparse.Namespace) -> int:
-    """Runs the command, and answers the exit status."""
-    forms, own = incoming.forms_of(said), given(said.files, said.called)
-    with words.changing(said, "hand-in") as office:
-        handed_in = office.handed_in()
-        handed_in.remove_unnamed()
-        try:
-            added = look_at(office, handed_in, own, office.who, said.again, forms)
-            left = handed_in.make_count()
-        except BaseException:
-            # (what does not count is taken away at once)
-            office.handed_in().remove_unnamed()
-            raise
-        folder.tell_left("handed in", left)
-        for part in added.parts:
-            count, there = f"{handed.NAMES[part.kind]} {part.count}", places(part.start, part.end)
-            print(f"handed in: {part.name}: {count}, {there}")
-        awaited.tell_new(office, added.parts)
-        print("".join(f"again: {line}\n" for line in added.again), end="")
-        return trial.tell(added.looked, added.next_day, added.places())
+@dataclass(frozen=True)
+class HandIn:
+    """What is handed in: files, how tables of them are written, and what is meant once more, by FILE:LINE or by the
+    PLACE of what was handed in."""
+
+    files: tuple[Given, ...]
+    again: tuple[str, ...] = ()
+    forms: Forms = Forms()
 
 
-@dataclass
+@dataclass(frozen=True)
 class Added:
-    """Files that were put into next/, and the next day as it stands with them."""
+    """What was handed in, and the next day as it stands with it."""
 
     parts: list[Part]
     next_day: NextDay
     looked: list[trial.Looked]
     # What the folder has had before, and may come again.
     again: list[str]
+    # What of it waits for another login, in words.
+    waits: list[str]
 
     def places(self) -> set[int]:
         """The places of all that was added."""
         return {place for part in self.parts for place in range(part.start, part.end)}
 
 
-def look_at(
-    office: Office, handed_in: HandedIn, own: list[Given], who: str, again: Sequence[str] = (), forms: Forms = Forms()
-) -> Added:
-    """Puts files into the folder of what was handed in, where they do not count yet, and tries the next day with them.
-    Ends the command at a fault of a file, or of the next day as a whole."""
-    here = Here(handed_in, *meant_again([each.path for each in own], again))
-    parts = [add(office, here, incoming.read(each, forms), who) for each in own]
-    date = composing.settlement_date(None, office, handed_in)
-    next_day = composing.compose(office, handed_in.until(date), date)
-    names = labels.of_folder(office.path)
-    looked = trial.look(next_day, next_day.day(office.next_folder / "the next day"), names)
-    return Added(parts, next_day, looked, here.told)
+def hand_in(office: Office, by: By, asked: HandIn) -> Added:
+    """Hands files in, and tries the next day with them. Raises FileFault at a fault of a file, or of the next day as a
+    whole, and WordsFault or RightsFault if it may not be so: then nothing is handed in."""
+    with office.changing("hand-in", by):
+        return added(office, asked)
+
+
+def look_at(office: Office, by: By, asked: HandIn) -> Added:
+    """What handing in would give. Nothing is handed in."""
+    with office.changing("hand-in", by), office.store.trying():
+        return added(office, asked)
+
+
+def added(office: Office, asked: HandIn) -> Added:
+    """Hands files in, in a change of the folder."""
+    handed_in = approvals.handed_in_of(office)
+    here = Here(handed_in, *meant_again([each.path for each in asked.files], asked.again))
+    parts = [add(office, here, incoming.read(each, asked.forms)) for each in asked.files]
+    there = approvals.handed_in_of(office)
+    date = composing.settlement_date(office, there)
+    next_day = composing.compose(office, there.until(date), date)
+    looked = trial.look(next_day, next_day.day(), labels.of_office(office))
+    return Added(parts, next_day, looked, here.told, approvals.told_of_new(office, parts))
 
 
 def meant_again(paths: list[str], words: Sequence[str]) -> tuple[set[tuple[str, int]], set[int]]:
@@ -149,8 +121,8 @@ class Before(NamedTuple):
     may_come: bool = False
 
 
-def add(office: Office, here: Here, own: Incoming, who: str) -> Part:
-    """Puts a file into next/, where it does not count yet."""
+def add(office: Office, here: Here, own: Incoming) -> Part:
+    """Hands a file in."""
     meant = (line for path, line in here.lines if path == own.given.path)
     for line in (line for line in meant if line not in own.begun):
         raise WordsFault(f"--again {own.path}:{line}: no instruction or account begins there")
@@ -161,7 +133,7 @@ def add(office: Office, here: Here, own: Incoming, who: str) -> Part:
     if own.kind == CHANGES:
         refuse_accounts(here, own)
         refuse_blocks(office, here, own)
-    part = handed_files.put(here.handed_in, own.kind, own.content, own.count, own.given.name, who, own.originals)
+    part = handed.put(office, here.handed_in, own.kind, own.content, own.count, own.given.name, own.originals)
     here.named.append((part, own.path))
     return part
 
@@ -172,9 +144,9 @@ def refuse(office: Office, here: Here, own: Incoming, line: int, what: tuple[str
     path, there = own.path, here.handed_in
     if here.takes(own.given, line, before):
         return
-    checksum = files.sum_of(own.content)
+    checksum = sum_of(own.content)
     same = next((part for part in there.parts if part.sum == checksum and there.left_of(part)), None)
-    when = f"by {same.who} at {same.at} as {same.name}" if same else had.file_had(office, checksum)
+    when = f"by {same.who} at {same.at} as {same.name}" if same else earlier.file_had(office, checksum)
     more = f"--again {path}:{line} hands in once more what stands there"
     if when:
         found = (same and here.named_as(same)) or f"was handed in {when}"
@@ -192,8 +164,8 @@ def refuse_instructions(office: Office, here: Here, own: Incoming) -> None:
     rows = {row for row in source.rows if row != "end"}
     # (what was refused for good may come again)
     there = {
-        row: Before(f"one that {earlier}: {row}", None, earlier.refused not in ("", NOT_DUE))
-        for row, earlier in had.instructions_had(office, rows).items()
+        row: Before(f"one that {own_day}: {row}", None, own_day.refused not in ("", NOT_DUE))
+        for row, own_day in earlier.instructions_had(office, rows).items()
     }
     for row in rows & {waits.instruction.row for waits in waits_of(office)}:
         there[row] = Before(f"one that waits for its due day, and comes by itself: {row}")
@@ -213,8 +185,8 @@ def refuse_instructions(office: Office, here: Here, own: Incoming) -> None:
 
 def refuse_blocks(office: Office, here: Here, own: Incoming) -> None:
     """Ends the command at an account that a settled day has had with the same rows: since then it may have changed."""
-    days = had.accounts_had(office)
-    for line, rows in zip(own.begun, handed_files.items_of_text(Path(own.path), CHANGES, own.content)):
+    days = earlier.accounts_had(office)
+    for line, rows in zip(own.begun, earlier.items_of_text(CHANGES, own.content)):
         date = days.get(tuple(rows))
         if date:
             before = Before(f"the rows that {date} has had of this account")

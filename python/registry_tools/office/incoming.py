@@ -1,14 +1,12 @@
 """What somebody hands in: rows of a day text, or a table of which rows are made. A table is a workbook, a csv whose
 first row names columns, or whatever is handed in with a mapping."""
-import argparse
 import csv
+import os
 from collections.abc import Sequence
 from dataclasses import dataclass, replace
 
 from registry_tools.errors import FileFault, shown
-from registry_tools.office.given import Given
-from registry_tools.office.handed import CHANGES, DO, WORK, begins_item
-from registry_tools.office.sources import MAPPING, TABLE, Original
+from registry_tools.office.handed import CHANGES, DO, MAPPING, TABLE, WORK, Original, begins_item
 from registry_tools.second import faults
 from registry_tools.sheets import columns, importing, limits, sheets
 from registry_tools.sheets.mapping import Mapping
@@ -23,6 +21,26 @@ COLUMNS = {*columns.INSTRUCTION_COLUMNS, *columns.ACCOUNT_COLUMNS}
 FIRST_BYTES = 65_536
 EMPTY_TABLE = f"./day form makes an empty table, and {OTHER_HEADINGS}"
 EXPECTED = f"rows do, work or account in the first row: what is to be handed in; or the names of columns: {EMPTY_TABLE}"
+
+
+@dataclass(frozen=True)
+class Given:
+    """A file as somebody gave it: where it lies, and its other name, if it is called otherwise. The desk keeps uploads
+    under names of its own, so that no name that somebody chose stands on its disk; what is told and kept has the name
+    that the file came with."""
+
+    path: str
+    named: str = ""
+
+    @property
+    def told(self) -> str:
+        """How it is called in what is told of it."""
+        return self.named or self.path
+
+    @property
+    def name(self) -> str:
+        """How it is called in what is kept of it."""
+        return os.path.basename(self.told)
 
 
 @dataclass(frozen=True)
@@ -67,20 +85,6 @@ class TableFault(FileFault):
 
     def __str__(self) -> str:
         return "\n".join(importing.told(self.wrong, self.end))
-
-
-def add_words(parser: argparse.ArgumentParser) -> None:
-    """Tells a parser the words that say how tables are written."""
-    kinds = parser.add_mutually_exclusive_group()
-    kinds.add_argument("--instructions", action="store_true", help="the rows of a table are instructions")
-    kinds.add_argument("--accounts", action="store_true", help="the rows of a table are accounts, as with a column no")
-    importing.add_forms(parser)
-
-
-def forms_of(said: argparse.Namespace) -> Forms:
-    """How the words say that tables are written."""
-    are_accounts = said.accounts if said.accounts or said.instructions else None
-    return Forms(importing.read_mapping(said.mapping), said.dates, are_accounts)
 
 
 def read(own: Given, forms: Forms = Forms()) -> Incoming:

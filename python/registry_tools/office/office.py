@@ -51,13 +51,15 @@ class Office:
         """Who may do what."""
         return self.settings.people
 
+    def __enter__(self) -> "Office":
+        return self
+
+    def __exit__(self, *_error: object) -> None:
+        self.store.close()
+
     def last(self) -> Event | None:
         """The last day that is filed."""
         return self.events.last()
-
-    def name_of(self, event: Event, key: str) -> str:
-        """How a text of a settled day is called: as `./day unpack` writes it."""
-        return f"{self.store.path}/{event.date}/{key}.csv"
 
     def add(self, what: str, **said: Any) -> Event:
         """Adds an event, in a change, by the login that makes it."""

@@ -76,6 +76,18 @@ class Store:
         finally:
             self.db.execute("ROLLBACK")
 
+    @contextlib.contextmanager
+    def trying(self) -> Iterator[None]:
+        """In a change, what the block adds is taken back at its end."""
+        self.db.execute("SAVEPOINT trying")
+        count = len(self.events.all)
+        try:
+            yield
+        finally:
+            self.db.execute("ROLLBACK TO trying")
+            self.db.execute("RELEASE trying")
+            self.events = Events(self.path, self.events.all[:count])
+
     def begin(self) -> None:
         """Begins a change, and reads what others have done since the file was opened."""
         self.db.execute(f"PRAGMA busy_timeout = {SHORT_WAIT}")

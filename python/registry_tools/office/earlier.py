@@ -1,13 +1,14 @@
-"""What a folder has had: instructions and what came of them, accounts, and files, of all settled days."""
+"""What a folder has had before: instructions and what came of them, accounts, and files, of all settled days."""
 import re
+from collections.abc import Iterator
 from dataclasses import dataclass
-from typing import Iterator
 
 from registry_tools.calendars.due_days import NOT_DUE
-from registry_tools.office import files, handed_files, handed_journal, past
-from registry_tools.office.folder import Office
-from registry_tools.office.handed import CHANGES
-from registry_tools.office.journal import Event
+from registry_tools.office import handed
+from registry_tools.office.handed import CHANGES, DO, begins_item
+from registry_tools.office.office import Office
+from registry_tools.store.events import HANDED, Event
+from registry_tools.texts.rows import rows_of_text
 
 # A log row: its record number, the fields of the instruction, and for a refused one the name of the check.
 LOGGED = re.compile(r"log,([0-9]+),[^,]*,(.*?),(?:done|refused,[^,]*,([^,]*))(?:,.*)?")
@@ -32,9 +33,8 @@ def instructions_had(office: Office, rows: set[str]) -> dict[str, Had]:
     last that had it. Logs are read of days that have one of them, or take up what an earlier day refused as not due; of
     the first day always, whose text has instructions of its own."""
     found: dict[str, Had] = {}
-    for place, event in enumerate(office.journal.filed()):
-        text = files.bytes_in(past.as_filed(office, event, "do")).decode("utf-8", "surrogateescape")
-        there = rows.intersection(text.splitlines()) if place else rows
+    for place, event in enumerate(office.events.days):
+        there = rows & rows_given(office, event) if place else rows
         waited = {row for row, had in found.items() if had.refused == NOT_DUE}
         for row, had in logged_of(office, event, there | waited):
             if row not in found or found[row].refused:
@@ -42,11 +42,17 @@ def instructions_had(office: Office, rows: set[str]) -> dict[str, Had]:
     return found
 
 
+def rows_given(office: Office, event: Event) -> set[str]:
+    """The `do` rows that were handed in for a day."""
+    own = handed.for_a_day(office.store, event)
+    return {row for part in own.parts if part.kind == DO for row in own.rows(part).rows}
+
+
 def logged_of(office: Office, event: Event, rows: set[str]) -> Iterator[tuple[str, Had]]:
     """What the log of a day says of these `do` rows."""
     if not rows:
         return
-    for line in files.packed_lines(past.as_filed(office, event, "report")):
+    for line in office.store.texts.lines(event.report):
         logged = LOGGED.fullmatch(line)
         if logged is None:
             return
@@ -57,17 +63,26 @@ def logged_of(office: Office, event: Event, rows: set[str]) -> Iterator[tuple[st
 def accounts_had(office: Office) -> dict[tuple[str, ...], str]:
     """The blocks of accounts that settled days have had, each with the last of these days."""
     found = {}
-    for event in office.journal.filed():
-        path = past.as_filed(office, event, CHANGES)
-        for rows in handed_files.items_of_text(path, CHANGES, files.bytes_in(path)):
-            found[tuple(rows)] = str(event.date)
+    for event in office.events.days:
+        for item in handed.for_a_day(office.store, event).items(CHANGES):
+            found[tuple(item.rows)] = str(event.date)
     return found
 
 
 def file_had(office: Office, sum_of_file: str) -> str:
     """Where a file with this sum was handed in before, in words; nothing, if it never was."""
-    for event in office.journal.filed():
-        for part in handed_journal.read_journal(past.as_filed(office, event, "handed")).parts:
+    if not any(own.what == HANDED and own.text == sum_of_file for own in office.events.all):
+        return ""
+    for event in office.events.days:
+        for part in handed.for_a_day(office.store, event).parts:
             if part.sum == sum_of_file:
                 return f"for {event.date}, by {part.who} at {part.at} as {part.name}"
     return ""
+
+
+def items_of_text(kind: str, content: bytes) -> Iterator[list[str]]:
+    """The things of a text, each as its rows."""
+    rows = [row for row in rows_of_text("", content.decode("utf-8-sig", "surrogateescape")).rows if row != "end"]
+    starts = [place for place, row in enumerate(rows) if begins_item(kind, row)]
+    for start, end in zip(starts, [*starts[1:], len(rows)]):
+        yield rows[start:end]
