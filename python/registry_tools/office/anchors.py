@@ -1,8 +1,8 @@
-"""Heads of a journal, and the lines that keep them elsewhere.
+"""Heads of a folder, and the lines that keep them elsewhere.
 
-The head is the sum of the journal's last line; its first 12 digits are its short name. Whoever kept it can tell later
-whether a folder has grown from there: each line of the journal holds the sum of the line before it, so a folder that
-was restored from a backup, or a copy that went another way, does not have that line.
+The head is the line of the last event; its first 12 digits are its short name. Whoever kept it can tell later whether a
+folder has grown from there: each event holds the line of the one before it, so a folder that was restored from a
+backup, or a copy that went another way, does not have that line.
 
   anchor,AT,DATE,HEAD,ENGINE,SIGNATURE
 
@@ -12,6 +12,7 @@ SIGNATURE is empty, or what `ssh-keygen -Y sign` made of all before it, in one l
 import base64
 import binascii
 import datetime
+import os
 import re
 import subprocess
 import tempfile
@@ -20,9 +21,12 @@ from dataclasses import dataclass, replace
 from pathlib import Path
 
 from registry_tools.errors import FileFault, WordsFault, shown
-from registry_tools.office import journal
-from registry_tools.office.journal import FILED, Event, Journal
-from registry_tools.texts.rows import rows_of
+from registry_tools.office import composing
+from registry_tools.office.office import Office
+from registry_tools.output import NewFile
+from registry_tools.store.events import UPGRADED, Event, now
+from registry_tools.store.file import Store
+from registry_tools.texts.rows import bytes_of, rows_of
 
 TAG, FORM = "anchor", "anchor,AT,DATE,HEAD,ENGINE,SIGNATURE"
 FEWEST_DIGITS = 12
@@ -46,7 +50,7 @@ class Anchor:
 
     def signed_text(self) -> str:
         """What a signature is made of: all fields before it."""
-        return journal.row_of([TAG, self.at, str(self.date), self.head, self.engine])
+        return ",".join([TAG, self.at, str(self.date), self.head, self.engine])
 
     def row(self) -> str:
         """Its line."""
@@ -75,38 +79,59 @@ def head_of(word: str) -> str:
     return word
 
 
-def place_of(there: Journal, head: str) -> int | None:
-    """How many events stood in the journal when it had this head; None, if it never had it."""
-    lines = [there.beginning, *(event.line for event in there.events)]
-    return next((place for place, line in enumerate(lines) if line.startswith(head)), None)
+def lines_of(store: Store) -> Iterator[str]:
+    """The lines of all events, before them those of the journal of a folder of an older version of which the file was
+    made."""
+    for event in store.events.all:
+        if event.what == UPGRADED:
+            yield from (line.rpartition(",")[2] for line in store.texts.lines(event.text))
+        yield event.line
 
 
-def not_grown(there: Journal, head: str, date: datetime.date | None) -> FileFault | None:
-    """What shows that a journal has not grown from a head, whose last day was `date`; nothing, if it has."""
-    if place_of(there, head) is not None:
+def not_grown(store: Store, head: str, date: datetime.date | None) -> FileFault | None:
+    """What shows that a folder has not grown from a head, whose last day was `date`; nothing, if it has."""
+    if any(line.startswith(head) for line in lines_of(store)):
         return None
-    last = there.filed()[-1].date if there.filed() else None
+    last = store.events.last()
     found = f"no line with the head {head[:FEWEST_DIGITS]}"
     if date is None:
-        return FileFault(there.path, 0, "head", found, "a journal that has grown from it; --date tells its last day")
-    if last is None or last < date:
-        ends = f"its last day is {last}" if last else "no day is settled"
+        return FileFault(store.path, 0, "head", found, "a file that has grown from it; --date tells its last day")
+    if last is None or last.date < date:
+        ends = f"its last day is {last.date}" if last else "no day is settled"
         expected = f"the day {date}, after which the head was taken: this is an earlier state, or another folder"
-        return FileFault(there.path, 0, "head", f"{found}: {ends}", expected)
-    expected = f"another history up to {date}: {parting(there, date)}"
-    return FileFault(there.path, line_of(there, date), "head", found, expected)
+        return FileFault(store.path, 0, "head", f"{found}: {ends}", expected)
+    expected = f"another history up to {date}: {parting(store, date)}"
+    return FileFault(store.path, 0, "head", found, expected)
 
 
-def line_of(there: Journal, date: datetime.date) -> int:
-    """The line of the event that filed a day, or the one behind it."""
-    places = (place for place, event in enumerate(there.events, 2) if event.event == FILED and event.date >= date)
-    return next(places, 0)
-
-
-def parting(there: Journal, date: datetime.date) -> str:
-    """Up to when a journal and one with another head may have gone together."""
-    event: Event | None = next((own for own in reversed(there.filed()) if own.date <= date), None)
+def parting(store: Store, date: datetime.date) -> str:
+    """Up to when a folder and one with another head may have gone together."""
+    event: Event | None = next((own for own in reversed(store.events.days) if own.date <= date), None)
     return f"here {event.date} was filed by {event.who} at {event.at}" if event else "here no day is filed up to then"
+
+
+# Keeping them.
+
+
+def anchor_of(office: Office) -> Anchor:
+    """The anchor of a folder as it stands. Raises FileFault if a text of its last day is not what it was."""
+    last = composing.last_day(office)
+    # (a head that is kept says of these texts that they are right)
+    for own in (last.text, last.report, last.waiting, last.waits):
+        office.store.texts.get(own)
+    anchor = Anchor(now(), last.date, office.events.last_line, last.engine)
+    key = office.settings.key
+    return signed(anchor, key) if key else anchor
+
+
+def keep(path: Path, anchor: Anchor) -> int:
+    """Puts an anchor behind those of a file, and answers how many there are."""
+    there = bytes_of(path) if path.exists() else b""
+    if there and not there.endswith(b"\n"):
+        raise FileFault(path, 0, "", "no line end behind the last line", "a line end: the file may be cut")
+    count = sum(1 for _ in read(path)) if there else 0
+    NewFile(os.fspath(path), there + f"{anchor.row()}\n".encode("utf-8", "surrogateescape")).keep()
+    return count + 1
 
 
 # Signatures, by ssh-keygen.

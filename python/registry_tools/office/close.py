@@ -1,73 +1,48 @@
-"""Settles the next day of a folder, and files it: its text is made of the last day and of what was handed in, the
-program settles it, the second answer works out the log once more and the accounts that the day touches, all others have
-to stand as before, and both texts are put into FOLDER/days/DATE with a line of the journal. With --verify, or verify =
-yes in office.ini, the second answer works out all accounts. If something is to be looked at first, such as a date that
-is no working day, that is told, and the day is filed with --yes.
-
-The first day has its own date. --second settles by the second answer (tools/rules.py) in place of the program: then
-nothing is proved. If office.ini says so, statements and pages are made, in FOLDER/days/DATE/statements and pages.
-Nothing is changed if something is wrong; what was refused is told, and is no reason not to close. What the program says
-beside the report, such as that it is not proved, is told too.
-
-exit status: 0 if the day is filed, 1 if something is to be looked at first.
-"""
-import argparse
-import contextlib
+"""Settles the next day of a folder, and files it: its text is made of the last day and of what was handed in, an engine
+settles it, and the second answer works out the log once more and the accounts that the day touches; all others have to
+stand as before."""
 import datetime
-import io
-import os
 from collections import Counter
 from dataclasses import dataclass
-from pathlib import Path
-from types import ModuleType
-from typing import Iterator
 
-from registry_tools import streams
 from registry_tools.calendars.due_days import NOT_DUE
-from registry_tools.errors import FOUND, WordsFault, raise_first
+from registry_tools.errors import WordsFault, raise_first
 from registry_tools.notes import LOOK, worth_telling
-from registry_tools.office import (
-    approvals, composing, files, folder, handed, handed_files, index, prepared, settling, sources, words,
-)  # fmt: skip
+from registry_tools.office import approvals, composing, handed, settling, trial
+from registry_tools.office.approvals import AskedFor
 from registry_tools.office.composing import NextDay
-from registry_tools.office.folder import Office
-from registry_tools.office.handed import HandedIn
-from registry_tools.office.journal import FILED, FILES, Event
-from registry_tools.office.layout import TABLES
-from registry_tools.office.past import PastDay
+from registry_tools.office.handed import HandedIn, Part
+from registry_tools.office.office import By, Office
 from registry_tools.office.program import named_program
 from registry_tools.office.settling import Engine
-from registry_tools.office.waits import write_waits
-from registry_tools.office.whole_change import Change
-from registry_tools.options import Words
-from registry_tools.pages import page
-from registry_tools.questions import statements
+from registry_tools.office.waits import waits_text
 from registry_tools.questions.compliance import compliant_share, last_year_over
-from registry_tools.questions.verify import difference_of_touched, expected_rows, first_difference
+from registry_tools.questions.verify import expected_rows, first_difference, settled_again
 from registry_tools.second import rules
+from registry_tools.store import daybook
+from registry_tools.store.events import FILED, Event
+from registry_tools.store.past import PastDay
+from registry_tools.store.texts import sum_of
 from registry_tools.texts.books import Sums, sums_of, sums_told
-from registry_tools.texts.checks import checks
 from registry_tools.texts.day_text import DayText
-from registry_tools.texts.in_words import grouped
-from registry_tools.texts.follows import must_follow
+from registry_tools.texts.follows import differences_of_totals, must_follow
 from registry_tools.texts.report import Report, report_of
-from registry_tools.texts.rows import rows_of_text
-
-EXAMPLE = "./day close --date 2025-09-22 --second --office out/office"
-
-
-def add_words(parser: argparse.ArgumentParser) -> None:
-    """Tells a parser the words of the command."""
-    without = "without it, the command says which one comes next"
-    parser.add_argument("--date", metavar="DATE", help=f"the settlement day; {without}")
-    parser.add_argument("--verify", action="store_true", help="work out all accounts once more")
-    parser.add_argument("--second", action="store_true", help="settle by the second answer, without the program")
-    parser.add_argument("--yes", action="store_true", help="file it, whatever is to be looked at")
-    words.add_office(parser)
-    words.add_who(parser)
+from registry_tools.texts.rows import KeptText, rows_of_text
+from registry_tools.texts.runs import unlike
 
 
-@dataclass
+@dataclass(frozen=True)
+class Close:
+    """What is closed: the settlement day, whether the second answer settles in place of the program, whether all
+    accounts are worked out once more, and whether the day is filed whatever is to be looked at."""
+
+    date: datetime.date | None
+    by_second: bool = False
+    verifies: bool = False
+    yes: bool = False
+
+
+@dataclass(frozen=True)
 class Settled:
     """A day that is to be filed, with its report."""
 
@@ -76,44 +51,50 @@ class Settled:
     report: Report
     report_text: bytes
     engine: Engine
-    # The day as the index has it, with the day before.
+    # The day as the daybook has it, with the day before.
     past_day: PastDay
 
 
-def run(said: argparse.Namespace) -> int:
-    """Runs the command, and answers the exit status."""
-    with words.changing(said, "close") as office:
-        handed_in = office.handed_in()
-        handed_in.remove_unnamed()
-        date = composing.settlement_date(said.date, office, handed_in)
-        if said.date is None:
-            raise WordsFault(f"name the day: ./day close --date {date} closes the next one")
-        mine, later = handed_in.until(date), [part for part in handed_in.parts if handed_in.is_left(part, date)]
+@dataclass(frozen=True)
+class Closed:
+    """A day is settled and filed: its event, what came of it, and what of what was handed in is left for later."""
+
+    event: Event
+    settled: Settled
+    outcome: "Outcome"
+    left: list[str]
+
+
+@dataclass(frozen=True)
+class Doubts:
+    """A day is not filed: what is to be looked at first."""
+
+    date: datetime.date
+    lines: list[str]
+
+
+def close(office: Office, by: By, asked: Close) -> Closed | Doubts | AskedFor:
+    """Settles and files the next day. Raises WordsFault if it is another one than the named one, and FileFault if
+    something that was handed in can't be in it, or if the report is not what the rules make of it."""
+    with office.changing("close", by):
+        handed_in = approvals.handed_in_of(office)
+        if asked.date is None:
+            comes = composing.settlement_date(office, handed_in)
+            raise WordsFault(f"name the day: ./day close --date {comes} closes the next one")
         with composing.telling_the_way_out():
-            left, composed = left_for_later(handed_in, date), composing.compose(office, mine, date)
-        doubts = [note for note in (*composed.notes, *left) if note.startswith(LOOK)]
-        if doubts and not said.yes:
-            lines = [*worth_telling(composed.notes), *left, f"{date} is not filed, without --yes"]
-            print(streams.by_name("\n".join(lines)))
-            return FOUND
-        asked, result = "--second" if said.second else "", files.sum_of(composed.text + composed.waiting_text())
-        approved = approvals.let_through(office, "close", date, asked, result)
-        if approved is None:
-            return FOUND
-        settled = settle(office, composed, said.second, said.verify)
-        with Change(office) as change:
-            event = file_day(office, change.make(prepared.NEW_DAY), mine, settled, approved)
-            there = HandedIn(change.make(prepared.NEW_NEXT), event.line, login=office.login)
-            handed_files.put_left(there, handed_in, later)
-            waiting = change.folder / prepared.NEW_DAY / FILES["waiting"]
-            write_waits(there.folder, settled.day, settled.report, str(waiting))
-            there.keep()
-            change.keep(event)
-        index.keep_up(office, event, settled.past_day)
-    # (it is another one on each machine, and the answer is not)
-    folder.to_errors(f"settled by {settled.engine}\nhead: {office.journal.head}")
-    print(streams.by_name("\n".join([*summary(outcome_of_day(settled), said.second), *left])))
-    return 0
+            left = left_for_later(handed_in, asked.date)
+            composed = composing.compose(office, handed_in.until(asked.date), asked.date)
+        if not asked.yes and any(note.startswith(LOOK) for note in (*composed.notes, *left)):
+            return Doubts(asked.date, [*worth_telling(composed.notes), *left])
+        words, result = "--second" if asked.by_second else "", sum_of(composed.text + composed.waiting_text())
+        approved = approvals.let_through(office, "close", asked.date, words, result)
+        if isinstance(approved, AskedFor):
+            return approved
+        settled = settle(office, composed, asked.by_second, asked.verifies)
+        event = file_day(office, settled, approved)
+        later = [part for part in handed_in.parts if handed_in.is_left(part, asked.date)]
+        hand_in_again(office, handed_in, later)
+    return Closed(event, settled, outcome_of_day(settled), left)
 
 
 def left_for_later(handed_in: HandedIn, date: datetime.date) -> list[str]:
@@ -131,9 +112,18 @@ def left_for_later(handed_in: HandedIn, date: datetime.date) -> list[str]:
     return left
 
 
+def hand_in_again(office: Office, old: HandedIn, parts: list[Part]) -> None:
+    """Hands in again, behind a day that was filed or undone, what is left of these parts."""
+    trial.forget(office)
+    handed.put_left(office, HandedIn(office.store), old, parts)
+
+
+# Settling it.
+
+
 def settle(office: Office, composed: NextDay, by_second: bool, verifies: bool = False) -> Settled:
     """Settles the day, and looks whether the report is that of the day and what the rules make of it."""
-    day = composed.day(office.day_folder(composed.date) / FILES["day"])
+    day = composed.day(f"{office.store.path}/{composed.date}/day.csv")
     program = "" if by_second else named_program(office)
     text = settling.by_rules(day) if by_second else settling.by_engine(program, composed.text)
     engine = settling.SECOND_ANSWER if by_second else settling.engine_of(program)
@@ -142,59 +132,60 @@ def settle(office: Office, composed: NextDay, by_second: bool, verifies: bool = 
     report = report_of(source, day)
     before = composed.before
     past_day = PastDay(day, report, before and before[1], before[0].heading if before else [])
-    must_follow(day, report, past_day.sums())
-    if not by_second:
-        whole = verifies or office.settings.verifies
-        raise_first([first_difference(source, expected_rows(day)) if whole else difference_of_touched(day, report)])
+    sums = past_day.sums()
+    if by_second:
+        raise_first(differences_of_totals(report, sums))
+    elif verifies or office.settings.verifies:
+        must_follow(day, report, sums)
+        raise_first([first_difference(source, expected_rows(day))])
+    else:
+        must_be_of_the_rules(day, report, sums)
     return Settled(composed, day, report, text, engine, past_day)
 
 
-def file_day(office: Office, place: Path, handed_in: HandedIn, settled: Settled, approved: str) -> Event:
-    """Makes the files of the day in an empty folder, and answers its line of the journal."""
-    composed, report = settled.composed, settled.report
-    contents = {
-        "day": composed.text, "report": settled.report_text, **composed.contents, "waiting": composed.waiting_text(),
-        "handed": handed_in.text().encode("utf-8", "surrogateescape"),
-    }  # fmt: skip
-    sums = {}
-    for key, content in contents.items():
-        lies = files.stored(Path(FILES[key]), content)
-        files.write_synced(place / FILES[key], lies)
-        sums[key] = files.sum_of(lies)
-    sources.file_all(handed_in.folder, place / TABLES, handed_in.sources())
-    make_papers(office, place)
-    return office.event(
-        FILED, composed.date, settled.day.head.next_record, report.next_record, sums=sums, approved=approved,
-        labels=office.kept_labels_sum(), engine=settled.engine.row(),
+def must_be_of_the_rules(day: DayText, report: Report, sums: dict[str, Sums]) -> None:
+    """Ends the command if a report is not what the rules make of a day: of its log, and of the accounts that it
+    touches; all others have to stand as before. Each instruction is worked out once."""
+    settled, log = settled_again(day)
+    if is_of_the_rules(day, report, settled, log) and not [*differences_of_totals(report, sums)]:
+        return
+    # (what does not follow from the day is told first)
+    must_follow(day, report, sums)
+    raise_first([first_difference(report.source, expected_rows(day))])
+
+
+def is_of_the_rules(day: DayText, report: Report, settled: rules.Day, log: list[rules.Logged]) -> bool:
+    """Whether the log of a report, the accounts that it touches, and those that it does not touch are what the rules
+    make of a day."""
+    if report.next_record != day.head.next_record + len(log) or day.book.keys() != report.book.keys():
+        return False
+    if report.source.rows[: len(report.log)] != [logged.line for logged in log]:
+        return False
+    touched = {number for logged in log for number in logged.held}
+    if any(report.book[number].rows != [*rules.account_rows(settled.accounts[number])] for number in touched):
+        return False
+    others = {*unlike(day.book, report.book, report.others)} - touched
+    return all(day.book[number].rows == report.book[number].rows for number in others)
+
+
+# Filing it.
+
+
+def file_day(office: Office, settled: Settled, approved: str) -> Event:
+    """Files a settled day, in a change of the folder, and answers its event."""
+    composed, texts = settled.composed, office.store.texts
+    day, report, waiting = settled.day, settled.report, composed.waiting_text()
+    kept = KeptText(f"{office.store.path}/{composed.date}/waiting.csv", lambda: waiting)
+    event = office.add(
+        FILED, date=composed.date, first=day.head.next_record, next=report.next_record, approved=approved,
+        engine=settled.engine.row(), text=texts.put(composed.text), report=texts.put(settled.report_text),
+        waiting=texts.put(waiting), waits=texts.put(waits_text(day, report, kept)),
     )  # fmt: skip
+    daybook.add_day(office.store.db, settled.past_day, (event.text, event.report))
+    return event
 
 
-def make_papers(office: Office, place: Path) -> None:
-    """Makes the statements and pages that office.ini asks for, beside the files of the day."""
-    last = office.last()
-    before = ["--before", *(str(office.file(last, key).resolve()) for key in ("day", "report"))] if last else []
-    more = ["--pending", FILES["waiting"], "--by-hand", ".", *before]
-    with inside(place), contextlib.redirect_stderr(io.StringIO()):
-        papers: tuple[tuple[ModuleType, str, bool, list[str]], ...] = (
-            (statements, "statements", office.settings.makes_statements, []),
-            (page, "pages", office.settings.makes_pages, more),
-        )
-        for module, name, is_wanted, known in papers:
-            if is_wanted:
-                parser = Words()
-                module.add_words(parser)
-                module.run(parser.parse_args([FILES["day"], FILES["report"], name, *known]))
-
-
-@contextlib.contextmanager
-def inside(path: Path) -> Iterator[None]:
-    """Works in a folder: what is made there names the files beside it."""
-    before = os.getcwd()
-    os.chdir(path)
-    try:
-        yield
-    finally:
-        os.chdir(before)
+# What came of it.
 
 
 @dataclass(frozen=True)
@@ -212,9 +203,10 @@ class Outcome:
     # The sums over all accounts, by kind.
     before: dict[str, Sums]
     after: dict[str, Sums]
-    # What is worth telling of how the text was made, and how many operators are compliant.
+    # What is worth telling of how the text was made.
     notes: list[str]
-    compliant: list[str]
+    # The last year that is over, with how many operators are compliant for it, of how many; None, if there is none.
+    compliant: tuple[int, int, int] | None
 
 
 def outcome_of_day(settled: Settled) -> Outcome:
@@ -230,20 +222,6 @@ def outcome_of_day(settled: Settled) -> Outcome:
     return Outcome(day.head.date, first, behind, done, refused, waiting, *sums, notes, compliant)
 
 
-def summary(own: Outcome, by_second: bool) -> list[str]:
-    """What is told at the end."""
-    first, last = own.first, own.next - 1
-    records = "no records" if first > last else f"record {first}" if first == last else f"records {first} to {last}"
-    how = " by the second answer" if by_second else ""
-    lines = [*own.notes, f"{own.date} is settled{how} and filed: {records}, done {own.done}"]
-    lines += [f"refused {count}: {name}: {checks()[name].meaning}" for name, count in own.refused.items()]
-    lines.append(f"waiting: {own.waiting}")
-    for kind in rules.KINDS:
-        pairs = zip(Sums._fields, own.before[kind], own.after[kind])
-        lines.append(f"{kind}: {', '.join(f'{name} {before_and_after(old, new)}' for name, old, new in pairs)}")
-    return [*lines, *own.compliant]
-
-
 def waiting_after(settled: Settled) -> int:
     """How many instructions wait after the day: those that waited and were not entered, and those that it refused as
     not due."""
@@ -251,16 +229,10 @@ def waiting_after(settled: Settled) -> int:
     return left + sum(logged.name == NOT_DUE for logged in settled.report.log)
 
 
-def before_and_after(old: int, new: int) -> str:
-    """Two numbers, or one if they are equal."""
-    return grouped(new) if old == new else f"{grouped(old)} before, {grouped(new)} after"
-
-
-def compliance_share(settled: Settled) -> list[str]:
+def compliance_share(settled: Settled) -> tuple[int, int, int] | None:
     """How many operators are compliant for the last year that is over, if there is one."""
     try:
         year = last_year_over(settled.day.head)
     except WordsFault:
-        return []
-    share, count = compliant_share(settled.day, settled.report, year)
-    return [f"compliant for {year}: {share} of {count} accounts of operators and aircraft operators"]
+        return None
+    return year, *compliant_share(settled.day, settled.report, year)

@@ -1,41 +1,35 @@
 """Corrects a settled day that nobody else knows of yet: closes it once more without an instruction, or with others, and
-all days behind it.
+all days behind it. Each day is made of what was handed in for it, with who handed it in and when.
 
-  ./day correct 2025-09-23 --without 61009 --why ".."            without this record
-  ./day correct 2025-09-23 --with right.csv --why "..."          with what this file has, behind what was handed in
-
-Both may stand there, and --without more than once, also with records of a later day. First it shows what each day
-becomes, as a difference: what comes of its instructions, what accounts hold, who is compliant. It counts with --yes, in
-one step: the journal then has a line for each day that is taken back and for each that is closed again, and what was
-handed in since stays handed in.
-
-Records behind one that is left out get other numbers. If a reversal names one of them, nothing is done.
-
-A day that was released is not corrected: others know of it. The command says what corrects it by the rules.
-
-exit status: 0 if it is done, 1 if --yes or another login is still needed.
+A day that is closed once more has other record numbers behind what was left out. A reversal that names one of them
+would reverse something else: that is refused.
 """
-import argparse
-import tempfile
-from pathlib import Path
+import datetime
+from dataclasses import dataclass, field
 
-from registry_tools import streams
-from registry_tools.calendars import dates
-from registry_tools.calendars.due_days import head_after
-from registry_tools.errors import FOUND, WordsFault
+from registry_tools.calendars.due_days import NOT_DUE, head_after
+from registry_tools.errors import FileFault, WordsFault
 from registry_tools.notes import LOOK
-from registry_tools.office import (
-    approvals, correcting, differing, files, folder, incoming, past, people, prepared, words,
-)  # fmt: skip
+from registry_tools.office import approvals, close, composing, differing, hand_in, handed, incoming, people, trial
+from registry_tools.office.approvals import AskedFor
 from registry_tools.office.close import Settled
-from registry_tools.office.correcting import Correction
-from registry_tools.office.folder import Office
-from registry_tools.office.given import Given
-from registry_tools.office.incoming import Incoming
-from registry_tools.office.journal import Event
-from registry_tools.office.whole_change import Change
+from registry_tools.office.edits import place_of_row
+from registry_tools.office.hand_in import Here
+from registry_tools.office.handed import CHANGES, DO, FIRST, HandedIn, Item, Part
+from registry_tools.office.incoming import Given, Incoming
+from registry_tools.office.office import By, Office
+from registry_tools.office.waits import waits_of
+from registry_tools.progress import progress
+from registry_tools.store import daybook, past
+from registry_tools.store.events import UNDONE, Event
+from registry_tools.store.past import PastDay
+from registry_tools.store.texts import sum_of
+from registry_tools.texts.report import LogRow, Report
+from registry_tools.texts.rows import text_of_rows
 
-EXAMPLE = './day correct 2025-09-23 --without 61009 --why "entered twice" --second --office out/office'
+REVERSE = "reverse"
+# Of the day before, the report as it was and as it becomes.
+Reports = tuple[Report, Report]
 # What corrects what was done, if others know of it: as docs/RULES.md says it.
 LAW = {
     "transfer": "a transfer back, from the account that received",
@@ -55,91 +49,91 @@ LAW = {
 OF_REVERSALS = ("surrender", "delete")
 
 
-def add_words(parser: argparse.ArgumentParser) -> None:
-    """Tells a parser the words of the command."""
-    parser.add_argument("date", metavar="DATE", help="the settled day that is wrong")
-    without = "a record that is left out, of this day or a later one"
-    parser.add_argument("--without", metavar="RECORD", type=int, nargs=1, action="extend", default=[], help=without)
-    more = "do rows, account blocks or work rows that are handed in for this day as well"
-    parser.add_argument("--with", dest="files", metavar="FILE", nargs=1, action="extend", default=[], help=more)
-    parser.add_argument("--verify", action="store_true", help="work out all accounts once more")
-    parser.add_argument("--second", action="store_true", help="settle by the second answer, without the program")
-    parser.add_argument("--yes", action="store_true", help="make it count")
-    words.add_office(parser)
-    words.add_who(parser)
-    words.add_why(parser)
+@dataclass(frozen=True)
+class Correct:
+    """What is corrected: a settled day, without these records of it or of later days, with these files; and how it is
+    settled. It counts with YES."""
+
+    date: datetime.date
+    why: str
+    without: tuple[int, ...] = ()
+    files: tuple[Given, ...] = ()
+    by_second: bool = False
+    verifies: bool = False
+    yes: bool = False
 
 
-def run(said: argparse.Namespace) -> int:
-    """Runs the command, and answers the exit status."""
-    why = words.one_line("--why", said.why)
-    date = dates.date_of("DATE", said.date)
-    if not said.without and not said.files:
+@dataclass(frozen=True)
+class Shown:
+    """What each day becomes, in words; and what is to be told of how the new days were made."""
+
+    days: list[tuple[datetime.date, list[str]]]
+    notes: list[str]
+
+
+@dataclass(frozen=True)
+class Corrected:
+    """Days are closed once more: which, what they become, and the last of them."""
+
+    days: list[datetime.date]
+    shown: Shown
+    last: Settled
+
+
+class Behind(Exception):
+    """A day behind the corrected one can't be closed so: which, and why."""
+
+    def __init__(self, date: datetime.date, fault: FileFault | WordsFault) -> None:
+        super().__init__(date, fault)
+        self.date, self.fault = date, fault
+
+
+def correct(office: Office, by: By, asked: Correct) -> Corrected | Shown | tuple[Shown, AskedFor]:
+    """Corrects a day, or shows what would become of it and of the days behind it. Raises WordsFault if it was released
+    or if a reversal would name another record, and Behind or a fault if a day can't be closed so."""
+    if not asked.without and not asked.files:
         raise WordsFault("nothing to correct: --without RECORD or --with FILE says what is wrong")
-    with words.changing(said, "correct") as office:
-        office.handed_in().remove_unnamed()
-        must_be_open(office, date, said.without)
-        without, added = [*dict.fromkeys(said.without)], [incoming.read(Given(path)) for path in said.files]
+    with office.changing("correct", by):
+        must_be_open(office, asked.date, asked.without)
+        added = [incoming.read(each) for each in asked.files]
         # (what it adds needs what ./day hand-in and ./day change need: the right, and the second one)
         beside = sorted({approvals.COMMAND_OF[own.kind] for own in added})
         for command in beside:
             people.must_be_allowed(office.people, office.login, command)
-        correction = Correction(office, date, without, added, why, said.second, said.verify)
-        with Change(office) as change, tempfile.TemporaryDirectory(ignore_cleanup_errors=True) as work:
-            events, settled = made(correction, change, Path(work) / "shown", "")
-            tell(correction, settled)
-            if not said.yes:
-                print(f"{date} would be corrected so; nothing is, without --yes")
-                return FOUND
-            result = files.sum_of(b"".join(own.composed.text + own.report_text for own in settled))
-            approved = approvals.let_through(office, "correct", date, asked_words(said, added), result, beside)
-            if approved is None:
-                return FOUND
-            if approved:
-                files.remove_tree(change.folder / prepared.NEW_DAYS)
-                events, settled = made(correction, change, Path(work) / "kept", approved)
-            correcting.keep(correction, change, events, settled[-1])
-    folder.to_errors(f"settled by {settled[-1].engine}\nhead: {office.journal.head}")
-    print(f"{date} is corrected: closed once more: {', '.join(str(event.date) for event in correction.days)}")
-    return 0
+        correction = Correction(office, asked, added)
+        dates = [event.date for event in correction.days]
+        if asked.yes and not approvals.waits(office, "correct", *beside):
+            settled = correction.made("")
+            return Corrected(dates, correction.shown(settled), settled[-1])
+        with office.store.trying():
+            settled = correction.made("")
+        shown = correction.shown(settled)
+        if not asked.yes:
+            return shown
+        result = sum_of(b"".join(own.composed.text + own.report_text for own in settled))
+        approved = approvals.let_through(office, "correct", asked.date, asked_words(asked, added), result, beside)
+        if isinstance(approved, AskedFor):
+            return shown, approved
+        settled = correction.made(approved)
+        return Corrected(dates, shown, settled[-1])
 
 
-def made(correction: Correction, change: Change, work: Path, approved: str) -> tuple[list[Event], list[Settled]]:
-    """The days once more, in the folder of a change."""
-    work.mkdir()
-    if not (change.folder / prepared.OLD_DAYS).exists():
-        files.make_folder(change.folder / prepared.OLD_DAYS)
-    events, settled = correction.made(work, change.make(prepared.NEW_DAYS), approved)
-    correction.must_name_the_same(settled)
-    return events, settled
-
-
-def tell(correction: Correction, settled: list[Settled]) -> None:
-    """Shows what each day becomes."""
-    for before, after in zip(correction.before, settled):
-        lines = differing.all_differences(before, after)
-        notes = [note for note in after.composed.notes if note.startswith(LOOK)]
-        print(f"{before.date}:{'' if lines else ' as it was'}")
-        print(streams.by_name("".join(f"  {line}\n" for line in (*lines, *notes))), end="")
-    print("".join(f"{note}\n" for note in dict.fromkeys(correction.notes)), end="")
-
-
-def asked_words(said: argparse.Namespace, added: list[Incoming]) -> str:
+def asked_words(asked: Correct, added: list[Incoming]) -> str:
     """What is asked for, so that somebody else can look at it: the files with their rows."""
-    parts = [f"--without {record}" for record in said.without]
+    parts = [f"--without {record}" for record in asked.without]
     parts += [f"--with {own.given.name} ({'; '.join(own.rows.rows)})" for own in added]
-    return " ".join([*parts, *(["--second"] if said.second else []), f"--why {said.why}"])
+    return " ".join([*parts, *(["--second"] if asked.by_second else []), f"--why {asked.why}"])
 
 
 # Days that stay.
 
 
-def must_be_open(office: Office, date: object, without: list[int]) -> None:
+def must_be_open(office: Office, date: datetime.date, without: tuple[int, ...]) -> None:
     """Ends the command if there is no such day, or if others know of it."""
-    day = next((event for event in office.journal.filed() if event.date == date), None)
-    if day is None:
+    filed = office.events.day_of(date)
+    if filed is None:
         raise WordsFault(f"{date} is no settled day of {office.path}")
-    if not office.journal.is_released(day):
+    if not office.events.is_released(filed):
         return
     law = [line for record in without for line in law_of(office, record)]
     more = "; ".join(law or ["hand in for the next day what was left out"])
@@ -148,10 +142,10 @@ def must_be_open(office: Office, date: object, without: list[int]) -> None:
 
 def law_of(office: Office, record: int) -> list[str]:
     """What corrects a record that others know of."""
-    event = next((own for own in office.journal.filed() if own.first <= record < own.next), None)
+    event = next((own for own in office.events.days if own.first <= record < own.next), None)
     if event is None:
         return []
-    day, report = past.read(past.pair_of(office, event), None)
+    day, report = past.read(past.pair_of(office.store, event))
     logged = report.log[record - event.first]
     if not logged.is_done:
         return [f"record {record} needs none: it was refused"]
@@ -163,3 +157,181 @@ def law_of(office: Office, record: int) -> list[str]:
     end = head.due(day.head.date, head.lags["reversal"])
     until = f"until {end}" if end else "with no end that the calendar has"
     return [f"{what}, {until}: reverse {fields[4]}, {record}"]
+
+
+# Days that are closed once more.
+
+
+@dataclass
+class Correction:
+    """The days from a date on, without some records, with some files."""
+
+    office: Office
+    asked: Correct
+    added: list[Incoming]
+    # The days as they are, with their reports, and what was handed in for each and since.
+    days: list[Event] = field(default_factory=list)
+    before: list[PastDay] = field(default_factory=list)
+    filed: list[HandedIn] = field(default_factory=list)
+    # What is to be told of how the new days were made.
+    notes: list[str] = field(default_factory=list)
+
+    def __post_init__(self) -> None:
+        store = self.office.store
+        self.all_days = [*store.events.days]
+        self.since = approvals.handed_in_of(self.office)
+        self.waits = waits_of(self.office)
+        self.days = [event for event in self.all_days if event.date >= self.asked.date]
+        self.filed = [handed.for_a_day(store, event) for event in self.days]
+        self.before = [*past.read_all([past.pair_of(store, event) for event in self.days])]
+        for record in self.asked.without:
+            self.logged(record)
+
+    def logged(self, record: int) -> tuple[Event, LogRow]:
+        """The log row of a record, with the event of its day."""
+        for event, past_day in zip(self.days, self.before):
+            if event.first <= record < event.next:
+                return event, past_day.report.log[record - event.first]
+        first, last = self.days[0], self.days[-1]
+        there = f"{first.date} has the records {first.first} to {first.next - 1}"
+        raise WordsFault(f"--without {record}: {there}, and the days behind it have them up to {last.next - 1}")
+
+    def waited(self, record: int) -> str:
+        """That a record waited since an earlier day, and the words by which it is left out of that one."""
+        event, logged = self.logged(record)
+        row = logged.instruction.row
+        said = f"--without {record}: it waited since an earlier day, which it was handed in for: {row}"
+        for earlier in reversed([own for own in self.all_days if own.date < event.date]):
+            _, report = past.read(past.pair_of(self.office.store, earlier))
+            waited = [own.record for own in report.log if own.name == NOT_DUE and own.instruction.row == row]
+            if waited:
+                return f"{said}; ./day correct {earlier.date} --without {waited[0]} leaves it out"
+        return said
+
+    # The days once more.
+
+    def made(self, approved: str) -> list[Settled]:
+        """Takes the days back and closes them once more, in a change of the folder."""
+        self.notes.clear()
+        self.take_back(approved)
+        settled = list[Settled]()
+        for place, event in enumerate(self.days):
+            progress.tell("closing the days once more", place, len(self.days))
+            reports = (self.before[place - 1].report, settled[-1].report) if place else None
+            settled.append(self.closed(place, event, reports))
+            close.file_day(self.office, settled[-1], approved)
+        progress.clear()
+        close.hand_in_again(self.office, self.since, self.since.parts)
+        self.must_name_the_same(settled)
+        return settled
+
+    def take_back(self, approved: str) -> None:
+        """Takes the days back, the last one first."""
+        office = self.office
+        for last in reversed(self.days):
+            said = {"of": last.id, "date": last.date, "first": last.first, "next": last.next}
+            office.add(UNDONE, why=self.asked.why, approved=approved, **said)
+            daybook.remove_day(office.store.db, str(last.date))
+        trial.forget(office)
+
+    def closed(self, place: int, event: Event, reports: Reports | None) -> Settled:
+        """A day once more, behind another report than before."""
+        try:
+            there = self.handed_again(place, event, reports)
+            composed = composing.compose(self.office, there, event.date)
+            return close.settle(self.office, composed, self.asked.by_second, self.asked.verifies)
+        except (FileFault, WordsFault) as fault:
+            if event.date != self.asked.date:
+                raise Behind(event.date, fault) from None
+            raise
+
+    def handed_again(self, place: int, event: Event, reports: Reports | None) -> HandedIn:
+        """Hands in again what was handed in for a day, without what is left out, and with what is added."""
+        filed, there = self.filed[place], HandedIn(self.office.store)
+        gone = self.left_out(filed, event)
+        for part in filed.parts:
+            self.hand_in_again(there, filed, part, gone, event.date, reports)
+        if event.date == self.asked.date:
+            here = Here(there)
+            for each in self.added:
+                hand_in.add(self.office, here, each)
+        return there
+
+    def left_out(self, filed: HandedIn, event: Event) -> set[int]:
+        """The places of what is left out of what was handed in for a day."""
+        # (what waited stands before what was handed in)
+        items = [*filed.items(FIRST, DO)]
+        begin, gone = event.next - len(items), set[int]()
+        for record in self.asked.without:
+            if event.first <= record < begin:
+                raise WordsFault(self.waited(record))
+            if begin <= record < event.next:
+                gone.add(items[record - begin].place)
+        return gone
+
+    def hand_in_again(
+        self, there: HandedIn, filed: HandedIn, part: Part, gone: set[int], date: datetime.date,
+        reports: Reports | None,
+    ) -> None:  # fmt: skip
+        """Hands a part in again, without the places that are left out."""
+        left = [item for item in filed.items_left(part) if item.place not in gone]
+        rows = [row for item in left for row in self.rows_again(item, date, reports)]
+        if part.kind == FIRST:
+            others = (row for row in filed.rows(part).rows if not row.startswith(("do,", "end")))
+            rows = [*others, *rows, "end"]
+        elif not left:
+            return
+        handed.put_again(self.office, there, part, text_of_rows(rows), len(left), date)
+
+    def rows_again(self, item: Item, date: datetime.date, reports: Reports | None) -> list[str]:
+        """The rows of something that is handed in again. Of an account that was handed in as a whole, what a hand
+        changed is laid over the account as it stands now: so it has what it holds by then."""
+        if item.part.kind != CHANGES or reports is None:
+            return item.rows
+        old, new = reports
+        number = int(item.rows[0].split(",")[1])
+        if number not in old.book or number not in new.book:
+            return item.rows
+        rows = laid_over(item.rows, old.book[number].rows, new.book[number].rows)
+        if rows != item.rows:
+            whole = "was handed in as a whole, and comes with what it holds by then"
+            self.notes.append(f"{date}: account {number} {whole}")
+        return rows
+
+    def shown(self, settled: list[Settled]) -> Shown:
+        """What each day becomes."""
+        days = []
+        for before, after in zip(self.before, settled):
+            notes = [note for note in after.composed.notes if note.startswith(LOOK)]
+            days.append((before.date, [*differing.all_differences(before, after), *notes]))
+        return Shown(days, [*dict.fromkeys(self.notes)])
+
+    # What it would make of the numbers of records.
+
+    def must_name_the_same(self, settled: list[Settled]) -> None:
+        """Ends the command if a reversal names a record that becomes another one."""
+        old = {own.record: own for past_day in self.before for own in past_day.report.log}
+        new = {own.record: own for day in settled for own in day.report.log}
+        rows = [own.instruction.row for day in settled for own in day.report.log]
+        rows += [row for item in self.since.items(DO) for row in item.rows]
+        rows += [own.instruction.row for own in self.waits]
+        for row in dict.fromkeys(rows):
+            fields = row.split(",")
+            if fields[4] != REVERSE or not (fields[6].isascii() and fields[6].isdigit()):
+                continue
+            number = int(fields[6])
+            was, becomes = old.get(number), new.get(number)
+            if (was and was.instruction.row) != (becomes and becomes.instruction.row):
+                what = "leave that reversal out too, and hand it in once more for a later day"
+                raise WordsFault(f"record {number} would be another one, and {row} names it: {what}")
+
+
+def laid_over(block: list[str], old: list[str], new: list[str]) -> list[str]:
+    """The rows of an account with what a hand changed: what differs between `old` and the block."""
+    fields = [
+        given if given != before else now
+        for given, before, now in zip(block[0].split(","), old[0].split(","), new[0].split(","))
+    ]
+    gone, come = {*old[1:]} - {*block[1:]}, [row for row in block[1:] if row not in old[1:]]
+    left = [row for row in new[1:] if row not in gone and row not in come]
+    return [",".join(fields), *sorted([*left, *come], key=place_of_row)]

@@ -6,7 +6,7 @@ from typing import Iterator
 from registry_tools.errors import FileFault, WordsFault
 from registry_tools.notes import first_of
 from registry_tools.office.close import Settled
-from registry_tools.office.past import PastDay
+from registry_tools.store.past import PastDay
 from registry_tools.calendars.due_days import NOT_DUE
 from registry_tools.questions.compliance import last_year_over, standings
 from registry_tools.second import rules

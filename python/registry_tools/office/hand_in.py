@@ -59,9 +59,8 @@ def added(office: Office, asked: HandIn) -> Added:
     handed_in = approvals.handed_in_of(office)
     here = Here(handed_in, *meant_again([each.path for each in asked.files], asked.again))
     parts = [add(office, here, incoming.read(each, asked.forms)) for each in asked.files]
-    there = approvals.handed_in_of(office)
-    date = composing.settlement_date(office, there)
-    next_day = composing.compose(office, there.until(date), date)
+    date = composing.settlement_date(office, handed_in)
+    next_day = composing.compose(office, handed_in.until(date), date)
     looked = trial.look(next_day, next_day.day(), labels.of_office(office))
     return Added(parts, next_day, looked, here.told, approvals.told_of_new(office, parts))
 

@@ -260,10 +260,22 @@ def behind(store: Store, base: int) -> HandedIn:
     last = next((event for event in reversed(given) if event.kind == FIRST), None)
     parts = [part_of(store, event) for event in given if event.kind != FIRST or event is last]
     taken = [Taken(event.at, event.who, event.start, event.why, event.login) for event in own if event.what == TAKEN]
-    by = {event.of: event for event in own if event.what == APPROVED and event.of is not None}
-    starts = {part.event.id: part.start for part in parts}
-    approved = [Approved(own.at, own.who, starts[of], own.login) for of, own in by.items() if of in starts]
+    by = approvals_by(store, own[-1].id if own else base)
+    approved = [approved_of(by[part.origin.id], part) for part in parts if part.origin.id in by]
     return HandedIn(store, parts, taken, approved)
+
+
+def approvals_by(store: Store, until: int) -> dict[int, Event]:
+    """The last approval of each thing that was handed in, up to an event, by the event that handed it in first. (A day
+    that is corrected is closed once more with what was approved before.)"""
+    there = store.events
+    own = (event for event in there.all[:until] if event.what == APPROVED and event.of is not None)
+    return {there.of_id(event.of).origin: event for event in own if event.of is not None}
+
+
+def approved_of(event: Event, part: Part) -> Approved:
+    """Who approved a part."""
+    return Approved(event.at, event.who, part.start, event.login)
 
 
 def part_of(store: Store, event: Event) -> Part:

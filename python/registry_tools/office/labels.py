@@ -1,12 +1,13 @@
-"""Names of users, holders and accounts, which a folder of days keeps in labels.csv beside its journal.
+"""Names of users, holders and accounts, which a folder of days keeps: each event `labelled` adds rows.
 
-  KIND,NUMBER,NAME,AT,WHO,WHY    as ./day label writes it, behind all rows before it: the last one of a number counts,
+  KIND,NUMBER,NAME,AT,WHO,WHY    as ./day label adds it, behind all rows before it: the last one of a number counts,
                                  and without a NAME it has none any more
-  KIND,NUMBER,NAME               as somebody wrote it by hand, once for each number
+  KIND,NUMBER,NAME               as somebody writes it into a file, once for each number
 
-KIND is `user`, `holder` or `account`. The journal has a line `labelled` with the sum of the file.
+KIND is `user`, `holder` or `account`.
 """
-import argparse
+import csv
+import io
 import re
 import unicodedata
 from collections.abc import Iterator
@@ -15,10 +16,10 @@ from pathlib import Path
 from typing import NamedTuple
 
 from registry_tools.errors import WordsFault, escaped, shown
-from registry_tools.office.journal import row_of
-from registry_tools.office.layout import LABELS
+from registry_tools.office.office import Office
+from registry_tools.store.events import LABELLED
 from registry_tools.texts.in_words import as_looked_up
-from registry_tools.texts.rows import Rows, rows_of
+from registry_tools.texts.rows import Rows, rows_of, rows_of_text
 
 USER, HOLDER, ACCOUNT = KINDS = ("user", "holder", "account")
 # The columns of a table of names.
@@ -44,8 +45,10 @@ class Label(NamedTuple):
     why: str = ""
 
     def row(self) -> str:
-        """Its line."""
-        return row_of([*self])
+        """Its line, in csv."""
+        buffer = io.StringIO()
+        csv.writer(buffer, lineterminator="\n").writerow(self)
+        return buffer.getvalue().removesuffix("\n")
 
     def __str__(self) -> str:
         return f"{self.kind} {self.number}, {in_sight(self.name)}"
@@ -129,26 +132,25 @@ def wrong_name(name: str) -> str:
     return f"a name of at most {MOST_LETTERS} letters" if len(name) > MOST_LETTERS else ""
 
 
-def add_words(parser: argparse.ArgumentParser) -> None:
-    """Tells a parser the word that names a file of names."""
-    parser.add_argument("--labels", metavar="FILE", help="names of users, holders and accounts, as in labels.csv")
+def of_office(office: Office) -> Labels:
+    """The names that a folder has: what commands have added, one after another."""
+    return labels_of(rows_of_text(office.store.path, text_of(office).decode("utf-8-sig", "surrogateescape")))
 
 
-def named_by(said: argparse.Namespace) -> Labels:
-    """The names of the file that a word names; without it none."""
-    return Labels() if said.labels is None else read(said.labels)
-
-
-def of_folder(path: Path) -> Labels:
-    """The names that a folder of days has; none, if there is no such file."""
-    own = path / LABELS
-    return read(own) if own.exists() else Labels()
+def text_of(office: Office) -> bytes:
+    """All rows by which names were given or taken away, as `./day unpack` writes them."""
+    return b"".join(office.store.texts.get(own.text) for own in office.events.all if own.what == LABELLED)
 
 
 def read(path: str | Path) -> Labels:
     """The names of a file that count."""
+    return labels_of(rows_of(path))
+
+
+def labels_of(source: Rows) -> Labels:
+    """The names of these rows that count."""
     labels = Labels()
-    for label in rows_in(rows_of(path)):
+    for label in rows_in(source):
         key = label.kind, label.number
         if label.name:
             labels.named[key] = label

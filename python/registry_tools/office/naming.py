@@ -1,4 +1,4 @@
-"""Names beside the numbers of what is shown."""
+"""Names in what commands show: a folder of days has some, paths have none."""
 from collections.abc import Mapping, Sequence
 
 from registry_tools.office.labels import ACCOUNT, HOLDER, USER, Labels

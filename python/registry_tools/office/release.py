@@ -1,101 +1,96 @@
-"""Says that others know of a day of a folder now: from then on it is not undone any more, and no day before it. The
-journal keeps who said so, and why.
-
-A day whose report nothing proves, since no proved engine settled it, is released with --yes.
-
-exit status: 0 if the day is released, 1 if --yes has to say so.
-"""
-import argparse
+"""Says that others know of a day of a folder now: from then on it is not undone any more, and no day before it."""
 import datetime
-from typing import Iterator
+from collections.abc import Iterator
+from dataclasses import dataclass
 
-from registry_tools.calendars import dates
-from registry_tools.errors import FOUND, WordsFault, raise_first
-from registry_tools.notes import LOOK
-from registry_tools.office import approvals, files, folder, settling, words
-from registry_tools.office.folder import Office
-from registry_tools.office.journal import HEAD_DIGITS, RELEASED, Event
-from registry_tools.office.layout import JOURNAL
-
-EXAMPLE = './day release 2025-09-24 --why "statements were sent" --office out/office'
+from registry_tools.errors import WordsFault
+from registry_tools.office import approvals, settling
+from registry_tools.office.approvals import AskedFor
+from registry_tools.office.office import By, Office
+from registry_tools.store.events import RELEASED, Event
 
 
-def add_words(parser: argparse.ArgumentParser) -> None:
-    """Tells a parser the words of the command."""
-    words.add_day(parser, "a settled day")
-    parser.add_argument("--yes", action="store_true", help="also a day that no proved engine has settled")
-    words.add_office(parser)
-    words.add_who(parser)
-    words.add_why(parser)
+@dataclass(frozen=True)
+class Release:
+    """What is released: a settled day; with YES also one that no proved engine has settled."""
+
+    date: datetime.date | None
+    why: str
+    yes: bool = False
 
 
-def run(said: argparse.Namespace) -> int:
-    """Runs the command, and answers the exit status."""
-    why = words.one_line("--why", said.why)
-    with words.changing(said, "release") as office:
-        day = day_to_release(office, said.day)
-        doubt = doubt_of(day)
-        if doubt and not said.yes:
-            print(f"{LOOK}: {day.date} {doubt}\n{day.date} is not released, without --yes")
-            return FOUND
-        if not is_kept(office, day, why):
-            return FOUND
-    print(f"{day.date} is released: it is not undone any more")
-    return 0
+@dataclass(frozen=True)
+class Released:
+    """A day is released, by this event."""
+
+    event: Event
 
 
-def is_kept(office: Office, day: Event, why: str) -> bool:
-    """Releases a day, or asks for it if it has to wait for another login. Ends the command if its files are not as they
-    were filed: others would know of something else."""
-    raise_first(office.changed_files(day))
-    approved = approvals.let_through(office, "release", day.date, f"--why {why}", day.line)
-    if approved is None:
-        return False
-    labels = office.kept_labels_sum()
-    event = office.event(RELEASED, day.date, day.first, day.next, why, approved=approved, labels=labels)
-    left = files.step(office.path / JOURNAL, office.journal.with_event(event).encode("utf-8", "surrogateescape"))
-    folder.tell_left(f"{day.date} is released", left)
-    folder.to_errors(f"head: {event.line[:HEAD_DIGITS]}")
-    return True
+@dataclass(frozen=True)
+class Unproved:
+    """A day is not released: why nothing proves its report."""
+
+    date: datetime.date
+    doubt: str
 
 
-def release(said: argparse.Namespace, day: Event, why: str) -> None:
-    """Releases a day that was read before, if it is still there."""
-    with words.changing(said, "release") as office:
-        there = office.journal.day_of(day.date)
-        if there is None or there.line != day.line:
-            raise WordsFault(f"{day.date} was undone meanwhile: look once more")
-        if not office.journal.is_released(there) and not is_kept(office, there, why):
-            raise WordsFault(f"{day.date} is not released yet, and nothing was made")
-    folder.to_errors(f"{day.date} is released: it is not undone any more")
+def release(office: Office, by: By, asked: Release) -> Released | Unproved | AskedFor:
+    """Releases a day. Raises WordsFault if there is none of this date, or if it was released before."""
+    with office.changing("release", by):
+        filed = day_to_release(office, asked.date)
+        doubt = doubt_of(filed)
+        if doubt and not asked.yes:
+            return Unproved(filed.date, doubt)
+        return made_known(office, filed, asked.why)
+
+
+def release_if_there(office: Office, by: By, filed: Event, why: str) -> Released | AskedFor | None:
+    """Releases a day that was read before, if it was not released meanwhile. Raises WordsFault if it was undone."""
+    with office.changing("release", by):
+        there = office.events.day_of(filed.date)
+        if there is None or there.line != filed.line:
+            raise WordsFault(f"{filed.date} was undone meanwhile: look once more")
+        return None if office.events.is_released(there) else made_known(office, there, why)
+
+
+def made_known(office: Office, filed: Event, why: str) -> Released | AskedFor:
+    """Releases a day, in a change of the folder, or asks for it if it has to wait for another login."""
+    approved = approvals.let_through(office, "release", filed.date, f"--why {why}", filed.line)
+    if isinstance(approved, AskedFor):
+        return approved
+    # (others would know of something else)
+    for own in (filed.text, filed.report):
+        office.store.texts.get(own)
+    said = {"of": filed.id, "date": filed.date, "first": filed.first, "next": filed.next}
+    return Released(office.add(RELEASED, why=why, approved=approved, **said))
 
 
 def days_told(office: Office) -> Iterator[tuple[Event, str, str]]:
     """The days of a folder, the last one first, each with what settled it and whether others know of it, in words."""
-    released = {event.date for event in office.journal.events if event.event == RELEASED}
+    released = {event.date for event in office.events.all if event.what == RELEASED}
     last = max(released, default=datetime.date.min)
-    for day in reversed(office.journal.filed()):
-        yield day, str(settling.engine_named(day.engine) or "not told"), "yes" if day.date <= last else "no"
+    for filed in reversed(office.events.days):
+        yield filed, str(settling.engine_named(filed.engine) or "not told"), "yes" if filed.date <= last else "no"
 
 
-def doubt_of(day: Event) -> str:
+def doubt_of(filed: Event) -> str:
     """Why nothing proves the report of a day, in words; nothing, if a proved engine settled it."""
-    engine = settling.engine_named(day.engine)
+    engine = settling.engine_named(filed.engine)
     if engine is None:
         return "was settled before the journal told by which engine, or by one that it does not name"
     return "" if engine.is_proved else f"was settled by {engine}"
 
 
-def day_to_release(office: Office, word: str | None) -> Event:
-    """The day that the words name, which was not released yet."""
+def day_to_release(office: Office, date: datetime.date | None) -> Event:
+    """The day that is named, which was not released yet."""
     last = office.last()
     if last is None:
         raise WordsFault(f"{office.path} has no settled day")
-    named = last if word is None else office.journal.day_of(dates.date_of("DATE", word))
+    named = last if date is None else office.events.day_of(date)
     if named is None:
-        raise WordsFault(f"{word} is no settled day of {office.path}: the last one is {last.date}")
-    if office.journal.is_released(named):
+        raise WordsFault(f"{date} is no settled day of {office.path}: the last one is {last.date}")
+    if office.events.is_released(named):
         raise WordsFault(f"{named.date} was released before")
-    if word is None:
+    if date is None:
         raise WordsFault(f"name the day: ./day release {last.date} releases the last one")
     return named

@@ -1,30 +1,21 @@
-"""Shows how a folder of days stands: the last day, what waits, what was handed in for the next day, and whether
-somebody works on it.
-
-With --csv or --json, a row for each thing, all of what waits and was handed in: `what` says which of these it is.
-
-exit status: 0 if the files of the last day are those that the journal names, 1 if one is not.
-"""
-import argparse
+"""How a folder of days stands: the last day, what waits, what was handed in for the next day, and whether a command
+works on it."""
 import datetime
-import os
-import sys
-from typing import Iterator
+from collections.abc import Iterator
+from dataclasses import dataclass
 
-from registry_tools import showing, streams, tables
+from registry_tools import streams, tables
 from registry_tools.calendars.working_days import days_in_words
-from registry_tools.errors import FOUND, FileFault
+from registry_tools.errors import FileFault
 from registry_tools.notes import LOOK, counted
-from registry_tools.office import approvals, awaited, folder, labels, lock, naming, settling, words
-from registry_tools.office.folder import Office
+from registry_tools.office import approvals, labels, naming, settling
 from registry_tools.office.handed import KINDS, HandedIn, Item
 from registry_tools.office.labels import Labels
+from registry_tools.office.office import Office
 from registry_tools.office.waits import waits_of
 from registry_tools.questions.due import missed_days, next_dates
 from registry_tools.showing import Cell
 
-EXAMPLE = "./day status --office out/office"
-BOLD, RED, PLAIN = "\033[1m", "\033[31m", "\033[0m"
 # More of what was handed in, or waits, is only counted.
 MOST_SHOWN = 20
 # So many of the next dates are shown; ./day due shows all, with the accounts.
@@ -41,49 +32,58 @@ LAST, LOGIN, ENGINE, HEAD, MISSED, WAITS, HANDED, TAKEN, SECOND, IN_USE, FAULT =
 
 # Of days that were settled before the journal had the engine.
 NOBODY_KNOWS = "not known: the journal does not say it"
+CHANGING = "a command changes the folder now"
 
 
-def add_words(parser: argparse.ArgumentParser) -> None:
-    """Tells a parser the words of the command."""
-    showing.add_words(parser)
-    words.add_office(parser)
+@dataclass(frozen=True)
+class Status:
+    """How a folder stands: with what was handed in, and what is wrong with the texts of the last day."""
+
+    office: Office
+    handed_in: HandedIn
+    faults: list[FileFault]
+
+    @property
+    def rows(self) -> Iterator[list[Cell]]:
+        """What programs are told: a row for each thing."""
+        return rows_for_programs(self.office, self.handed_in, self.faults)
+
+    @property
+    def lines(self) -> list[tuple[str, str]]:
+        """What people are told: of what, and what; of lines that go on, nothing and what."""
+        names = labels.of_office(self.office)
+        lines = [*last_lines(self.office, self.handed_in), *waiting_lines(self.office, names)]
+        lines += [*handed_lines(self.handed_in, names), *second_lines(self.office, self.handed_in)]
+        return [*lines, *lock_lines(self.office)]
 
 
-def is_coloured() -> bool:
-    """Whether somebody looks at a terminal with colours."""
-    return sys.stdout.isatty() and not os.environ.get("NO_COLOR") and os.environ.get("TERM") != "dumb"
+def status(office: Office) -> Status:
+    """How a folder stands."""
+    return Status(office, approvals.handed_in_of(office), [*faults_of_last(office)])
 
 
-def run(said: argparse.Namespace) -> int:
-    """Runs the command, and answers the exit status."""
-    office = folder.opened(said.office)
-    handed_in = office.handed_in()
-    last = office.last()
-    faults = [*office.changed_files(last), *office.changed_tables(last)] if last else []
-    rows = rows_for_programs(office, handed_in, faults)
-    showing.show_or_tell(said, COLUMNS, rows, lambda: told_of(office, handed_in, faults, said.to is None))
-    return FOUND if faults else 0
-
-
-def told_of(office: Office, handed_in: HandedIn, faults: list[FileFault], may_be_coloured: bool) -> str:
-    """What people are told."""
-    names = labels.of_folder(office.path)
-    lines = [*last_lines(office, handed_in), *waiting_lines(office, names), *handed_lines(handed_in, names)]
-    lines += [*second_lines(office, handed_in), *lock_lines(office)]
-    bold, red, plain = (BOLD, RED, PLAIN) if may_be_coloured and is_coloured() else ("", "", "")
-    told = [f"{bold}{name}:{plain} {what}" if name else f"  {what}" for name, what in lines]
-    return "\n".join([*told, *(f"{red}{LOOK}:{plain} {fault}" for fault in faults), ""])
+def faults_of_last(office: Office) -> Iterator[FileFault]:
+    """What is wrong with the texts of the last day, and with what its rows were made of."""
+    last, there = office.last(), office.store.texts
+    if last is None:
+        return
+    sources = (own.text for own in office.events.all if own.what == "source" and own.base == last.base)
+    for own in (last.text, last.report, last.waiting, last.waits, *sources):
+        try:
+            there.get(own)
+        except FileFault as fault:
+            yield fault
 
 
 def rows_for_programs(office: Office, handed_in: HandedIn, faults: list[FileFault]) -> Iterator[list[Cell]]:
     """What programs are told: a row for each thing, with nothing in the columns that it does not have."""
     last = office.last()
     if last:
-        released = "released" if office.journal.is_released() else "not released"
+        released = "released" if office.events.is_released() else "not released"
         yield [LAST, str(last.date), last.next, None, last.who, last.at, released]
         yield [LOGIN, str(last.date), None, None, last.who, last.at, last.login or None]
         yield [ENGINE, str(last.date), None, None, None, None, last.engine or NOBODY_KNOWS]
-        yield [HEAD, str(last.date), None, None, None, None, office.journal.last_line]
+        yield [HEAD, str(last.date), None, None, None, None, office.events.last_line]
         for date in missed_days(office):
             yield [MISSED, str(date), None, None, None, None, None]
     for waits in waits_of(office):
@@ -109,13 +109,13 @@ def last_lines(office: Office, handed_in: HandedIn) -> Iterator[tuple[str, str]]
     if last is None:
         return
     not_released = streams.by_name(f"not released: ./day undo {last.date} takes it back")
-    released = "released" if office.journal.is_released() else not_released
+    released = "released" if office.events.is_released() else not_released
     approved = f", approved by {office.people.in_words(last.approved)}" if last.approved else ""
     who = awaited.who_did(office, last.who, last.login)
     yield "last day", f"{last.date}, filed by {who} at {last.at}{approved}, {released}"
     yield "settled by", str(settling.engine_named(last.engine) or NOBODY_KNOWS)
     yield "next record", str(last.next)
-    yield "head", office.journal.head
+    yield "head", office.events.head
     today = datetime.date.today()
     passed = missed_days(office)
     yield "since then", counted((today - last.date).days, "day", "days") if today > last.date else "no day has passed"
@@ -148,11 +148,9 @@ def handed_lines(handed_in: HandedIn, names: Labels) -> Iterator[tuple[str, str]
 
 
 def second_lines(office: Office, handed_in: HandedIn) -> Iterator[tuple[str, str]]:
-    """What waits for another login, what approves nothing, and what nobody could approve."""
-    for line in awaited.told(office, handed_in):
-        yield SECOND, line
-    for fault in (*handed_in.unsaid, *approvals.all_approvals(office).faults):
-        yield SECOND, f"{LOOK}: {fault}"
+    """What waits for another login, and what nobody could approve."""
+    for own in approvals.all_waiting(office, handed_in):
+        yield SECOND, own.line
     for command in office.people.without_second():
         yield SECOND, f"{LOOK}: {command} waits for a second one, and office.ini names fewer than two who may give it"
 
@@ -177,7 +175,6 @@ def named_in(row: str, names: Labels) -> str:
 
 
 def lock_lines(office: Office) -> Iterator[tuple[str, str]]:
-    """Who uses the folder, if somebody does."""
-    path = office.path / lock.NAME
-    if lock.is_held(path):
-        yield "in use", lock.holder_of(path)
+    """That a command changes the folder, if one does."""
+    if office.store.is_changing():
+        yield "in use", CHANGING
