@@ -11,7 +11,7 @@ from typing import Protocol, cast
 
 from registry_tools import outcomes, steps, streams, tables
 from registry_tools.errors import FILE, NOT_WRITTEN, FileFault, WordsFault
-from registry_tools.office import named_day
+from registry_tools.cli import named_day
 from registry_tools.options import Words, look_at_files
 from registry_tools.progress import progress
 
@@ -59,20 +59,9 @@ OFFICE_COMMANDS = {
     "export": "writes a table for a spreadsheet; needs no folder, if paths are named",
     "form": "writes an empty table of an act, accounts or labels, to be filled in; needs no folder",
 }
-MODULES = {
-    "changes": "listing", "hand-in": "hand_in", "take-back": "take_back", "try": "trial", "import": "importing",
-    "export": "exporting",
-}  # fmt: skip
-# In which room of the package the module of a command lies; all others lie with the office.
-ROOMS = {
-    "questions": "chain verify statements explain log compliance due find balance history db",
-    "pages": "page month send",
-    "sheets": "import export form",
-    "office.changes": "change changes",
-    "desk": "desk",
-    "": "completion man",
-}
-ROOM_OF = {name: room for room, names in ROOMS.items() for name in names.split()}
+MODULES = {"hand-in": "hand_in", "take-back": "take_back", "try": "trial"}
+# Commands whose modules lie in other rooms of the package than cli.
+ROOMS = {"import": "sheets.importing", "form": "sheets.form", "desk": "desk.desk", "completion": "completion", "man": "man"}
 
 HEAD = """./day COMMAND ..
 
@@ -135,8 +124,8 @@ def parser_of(name: str, module: Command, names_day: bool = False) -> Words:
 
 def module_of(name: str) -> Command:
     """The module of a command."""
-    path = ["registry_tools", ROOM_OF.get(name, "office"), MODULES.get(name, name)]
-    return cast(Command, importlib.import_module(".".join(filter(None, path))))
+    path = ROOMS.get(name) or f"cli.{MODULES.get(name, name)}"
+    return cast(Command, importlib.import_module(f"registry_tools.{path}"))
 
 
 def run(name: str, arguments: list[str]) -> int:

@@ -1,8 +1,26 @@
 """Words that the commands of a folder share."""
 import argparse
+import contextlib
+import getpass
+import os
+import sys
+from collections.abc import Sequence
 
-from registry_tools.errors import WordsFault
-from registry_tools.office.folder import WHERE, user_name
+from registry_tools import outcomes
+from registry_tools.errors import FOUND, WordsFault
+from registry_tools.office import people
+from registry_tools.office.approvals import AskedFor
+from registry_tools.office.folder import WHERE
+from registry_tools.office.incoming import Given
+from registry_tools.office.office import By
+from registry_tools.office.people import People
+
+
+def user_name() -> str:
+    """Who gives the command, if no word says it."""
+    with contextlib.suppress(KeyError, OSError, ImportError):
+        return getpass.getuser()
+    return f"user {os.getuid()}"
 
 
 def add_office(parser: argparse.ArgumentParser) -> None:
@@ -36,3 +54,34 @@ def one_line(name: str, word: str) -> str:
     if not word.strip() or any(not letter.isprintable() for letter in word):
         raise WordsFault(f"{name} has to be some words in one line")
     return word
+
+
+def by(said: argparse.Namespace, known: People) -> By:
+    """By whom the command is given, of the people that a folder knows: by the login of the process, or the one for
+    which it may speak."""
+    return By(people.login_for(known, said.whom), one_line("--who", said.who), said.seen)
+
+
+def add_named(parser: argparse.ArgumentParser) -> None:
+    """The option by which a desk says how a file that it keeps is called: once for each file, in their order."""
+    parser.add_argument("--named", dest="called", metavar="NAME", nargs=1, default=[], help=argparse.SUPPRESS)
+
+
+def given(paths: Sequence[str], named: Sequence[str] = ()) -> tuple[Given, ...]:
+    """Files with the names by which they are called, if the words say some. Raises WordsFault if these are fewer or
+    more."""
+    if named and len(named) != len(paths):
+        raise WordsFault(f"--named stands {len(named)} times, and there are {len(paths)} files")
+    return tuple(Given(path, name) for path, name in zip(paths, named or [""] * len(paths)))
+
+
+def tell_asked_for(asked: AskedFor) -> int:
+    """Tells that something waits for another login, and answers the exit status."""
+    outcomes.asked_for()
+    print(asked)
+    return FOUND
+
+
+def to_errors(line: str) -> None:
+    """Writes a line to standard error."""
+    print(line, file=sys.stderr)

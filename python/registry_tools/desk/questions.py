@@ -20,7 +20,7 @@ from registry_tools.desk.words import PAGES
 from registry_tools.errors import WordsFault
 from registry_tools.notes import BY_HAND
 from registry_tools.office import awaited, taken
-from registry_tools.office.changes import listing
+from registry_tools.office import listing
 from registry_tools.office.labels import ACCOUNT, KINDS
 from registry_tools.pages import compliance as standing
 from registry_tools.pages.month_standing import until_in_words

@@ -1,33 +1,15 @@
-"""Writes the next day's text, from a day and its report.
-
-  heading       that of DAY, with --date and the next record number of REPORT
-  calendar      every work row of DAY, and those of --work, rising; a repeated one is left out
-  accounts      the book of REPORT; whole account blocks of --changes are added, or put in place of those of the book
-  instructions  what DAY refused as NotDue, and what waits in the --pending file, with their old dates, as far as they
-                are due on --date; then those of --do. The others go to the pending file, each with its due day
-
-REPORT must be what follows from DAY. --work, --do and --changes have only such rows, with or without a row end.
---pending-new makes the pending file, and --pending reads it and writes it anew; the command may be run again for the
-same day. Standard error tells each change by hand, what to look at, and the counts.
-
-Nothing is written if something is wrong.
-
-exit status: 0 if the text was written, 1 if it was written and something is to be looked at.
-"""
-import argparse
+"""The text of a day that follows from another one and its report: its heading, calendar, accounts and instructions, and
+what waits behind it."""
 import dataclasses
 import datetime
-import sys
-from typing import Collection, Iterator
+from collections.abc import Collection, Iterator
+from dataclasses import dataclass
 
 from registry_tools import tables
-from registry_tools.calendars.dates import date_of
 from registry_tools.calendars.due_days import NOT_DUE, due_day_after, is_due
 from registry_tools.calendars.working_days import days_in_words, look_at_calendar, next_calendar
-from registry_tools.errors import FOUND, FileFault, RowFault, WordsFault, of_file, raise_first
+from registry_tools.errors import FileFault, RowFault, WordsFault, of_file, raise_first
 from registry_tools.notes import BY_HAND, ROW, Notes
-from registry_tools.options import add_pair, add_to
-from registry_tools.output import NewFile, write_answer
 from registry_tools.second import faults, rules
 from registry_tools.texts import changes as made, pending
 from registry_tools.texts.accounts import Accounts, Block
@@ -38,26 +20,7 @@ from registry_tools.texts.repeated import Handed, tell_dates, tell_repeated
 from registry_tools.texts.report import Report
 from registry_tools.texts.rows import Rows, begins_with
 
-EXAMPLE = (
-    "./day next examples/week/monday.csv examples/week/monday-report.csv --date 2025-09-23 "
-    "--do examples/week/tuesday-do.csv --pending-new out/waiting.csv --to out/tuesday.csv"
-)
 OUTSIDE = rules.name_of(rules.outside_calendar)
-
-
-def add_words(parser: argparse.ArgumentParser) -> None:
-    """Tells a parser the words of the command."""
-    add_pair(parser)
-    parser.add_argument("--date", required=True, metavar="DATE", help="the next settlement day")
-    parser.add_argument("--do", metavar="FILE", help="the new instructions: do rows")
-    again = "new instructions may stand in DAY, in the pending file or twice in --do"
-    parser.add_argument("--again", action="store_true", help=again)
-    parser.add_argument("--work", metavar="FILE", help="more working days: work rows")
-    blocks = "accounts that are new, or changed by hand: whole account blocks"
-    parser.add_argument("--changes", metavar="FILE", help=blocks)
-    parser.add_argument("--pending", metavar="FILE", help="the instructions that wait for their due day")
-    parser.add_argument("--pending-new", metavar="FILE", help="the same, for the first time: the file is made")
-    add_to(parser)
 
 
 # The accounts.
@@ -174,9 +137,8 @@ def heading_of(day: DayText, date: datetime.date, next_record: int, calendar: li
     yield from (f"work,{working}" for working in calendar)
 
 
-def later_date(word: str, day: DayText) -> datetime.date:
-    """The date that a word says. Raises WordsFault if it is not later than the day."""
-    date = date_of("--date", word)
+def later_date(date: datetime.date, day: DayText) -> datetime.date:
+    """A date that is later than the day. Raises WordsFault if it is not."""
     if date <= day.head.date:
         raise WordsFault(f"--date {date} is not later than {day.head.date}, the day of {day.path}")
     return date
@@ -201,34 +163,57 @@ def about_date(
         yield f"working days that are passed over: {days_in_words(between)}"
 
 
-def next_head(
-    words: argparse.Namespace, day: DayText, report: Report, notes: Notes
-) -> tuple[rules.Day, dict[int, Block]]:
+@dataclass(frozen=True)
+class Next:
+    """What the next text is made of: paths of the day and its report, its date, and what comes in: new instructions,
+    working days, changed accounts, and what waits, in a file that is there or one that is made."""
+
+    day: str
+    report: str
+    date: datetime.date
+    do: str | None = None
+    work: str | None = None
+    changes: str | None = None
+    pending: str | None = None
+    pending_new: str | None = None
+    again: bool = False
+
+
+@dataclass(frozen=True)
+class NextText:
+    """The next text, the pending file with its path, if one is named, and what is to be told."""
+
+    text: str
+    pending: tuple[str, str] | None
+    notes: Notes
+
+
+def next_head(asked: Next, day: DayText, report: Report, notes: Notes) -> tuple[rules.Day, dict[int, Block]]:
     """The next day as the rules see it, without instructions: its calendar and its book; and the book in blocks."""
-    date = later_date(words.date, day)
-    calendar = next_calendar(day, words.work, notes)
-    book = book_with_changes(day, report, words.changes, notes)
+    date = later_date(asked.date, day)
+    calendar = next_calendar(day, asked.work, notes)
+    book = book_with_changes(day, report, asked.changes, notes)
     head = dataclasses.replace(day.head, date=date, working_days=calendar, accounts=Accounts(book))
     notes.lines += about_date(day.head.date, head.date, calendar)
     look_at_calendar(head, book, notes)
     return head, book
 
 
-def run(words: argparse.Namespace) -> int:
-    """Runs the command, and answers the exit status."""
+def next_text(asked: Next) -> NextText:
+    """The text of the next day. Raises FileFault or WordsFault if there can be none."""
     notes = Notes()
-    path = pending.chosen_path(words.pending, words.pending_new)
-    file = pending.read_pending(words.pending) if words.pending else None
-    day, report = read_pair(*in_order(words.day, words.report, notes))
-    head, book = next_head(words, day, report, notes)
+    path = pending.chosen_path(asked.pending, asked.pending_new)
+    file = pending.read_pending(asked.pending) if asked.pending else None
+    day, report = read_pair(*in_order(asked.day, asked.report, notes))
+    head, book = next_head(asked, day, report, notes)
     waiting = waiting_after(day, report, file, head.date, notes)
     entered = enter_due(head, waiting, notes)
     left = len(waiting) - len(entered)
     if left and not path:
         name = "name a file for them by --pending or --pending-new"
         raise WordsFault(f"instructions that are not due on {head.date}: {left}; {name}")
-    new = new_instructions(words.do, report, len(entered))
-    tell_repeated(Handed(new, day, report, waiting), words.again, notes)
+    new = new_instructions(asked.do, report, len(entered))
+    tell_repeated(Handed(new, day, report, waiting), asked.again, notes)
     tell_dates(new, head, notes)
     check_count(report.next_record, len(entered) + len(new))
     tell_refused(report, notes)
@@ -240,11 +225,8 @@ def run(words: argparse.Namespace) -> int:
     for block in book.values():
         rows += block.rows
     rows += [*(own.instruction.row for own in entered), *new.rows, "end", ""]
-    made = pending.Made(head.date, report.next_record)
-    others = [NewFile(path, pending.text_of(waiting, made))] if path else []
-    write_answer("\n".join(rows), words.to, *others)
-    print("\n".join(notes.lines), file=sys.stderr)
-    return FOUND if notes.has_warnings else 0
+    made = (path, pending.text_of(waiting, pending.Made(head.date, report.next_record))) if path else None
+    return NextText("\n".join(rows), made, notes)
 
 
 def check_count(first: int, count: int) -> None:

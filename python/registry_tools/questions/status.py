@@ -111,7 +111,7 @@ def last_lines(office: Office, handed_in: HandedIn) -> Iterator[tuple[str, str]]
     not_released = streams.by_name(f"not released: ./day undo {last.date} takes it back")
     released = "released" if office.events.is_released() else not_released
     approved = f", approved by {office.people.in_words(last.approved)}" if last.approved else ""
-    who = awaited.who_did(office, last.who, last.login)
+    who = approvals.who_did(office, last.who, last.login)
     yield "last day", f"{last.date}, filed by {who} at {last.at}{approved}, {released}"
     yield "settled by", str(settling.engine_named(last.engine) or NOBODY_KNOWS)
     yield "next record", str(last.next)
