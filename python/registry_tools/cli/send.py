@@ -20,10 +20,11 @@ from registry_tools.cli import asked, named, words
 from registry_tools.errors import WordsFault
 from registry_tools.notes import LOOK
 from registry_tools.office import folder, labels, release
+from registry_tools.office.approvals import AskedFor
 from registry_tools.office.office import Office
 from registry_tools.pages.send import Send, Sent, send, span_of
 from registry_tools.questions import days
-from registry_tools.store.events import Event
+from registry_tools.store.events import HEAD_DIGITS, Event
 from registry_tools.store.past import kept
 
 EXAMPLE = "./day send out/sent --day 2025-09-24 --holder 5502 --office out/office"
@@ -79,7 +80,7 @@ def of_folder(said: argparse.Namespace) -> Sent:
     assert day is not None  # (it is one of the dates)
     wanted = Send(wanted.begin, wanted.end, wanted.holders, kept(office.store, day, "waiting"))
     names = labels.of_office(office) if said.labels is None else labels.read(said.labels)
-    by = words.by(said, office)
+    by = words.by(said, office.people)
     is_released = office.store.events.is_released(day)
     if not is_released and said.release:
         must_be_proved(day)
@@ -90,8 +91,13 @@ def of_folder(said: argparse.Namespace) -> Sent:
     def keep() -> None:
         if said.release and not is_released:
             # (all letters are there, and get their names behind it: no day is taken back behind its letters)
-            release.release(office, by, day, f"letters in {said.folder}")
-            print(f"{day.date} is released: it is not undone any more", file=sys.stderr)
+            came = release.release_if_there(office, by, day, f"letters in {said.folder}")
+            if isinstance(came, AskedFor):
+                words.tell_asked_for(came)
+                raise WordsFault(f"{day.date} is not released yet, and nothing was made")
+            if came:
+                words.to_errors(f"head: {came.event.line[:HEAD_DIGITS]}")
+            words.to_errors(f"{day.date} is released: it is not undone any more")
         else:
             must_still_be_there(office, day)
 

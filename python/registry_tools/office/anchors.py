@@ -16,7 +16,7 @@ import os
 import re
 import subprocess
 import tempfile
-from collections.abc import Iterator
+from collections.abc import Collection, Iterator
 from dataclasses import dataclass, replace
 from pathlib import Path
 
@@ -24,8 +24,7 @@ from registry_tools.errors import FileFault, WordsFault, shown
 from registry_tools.office import composing
 from registry_tools.office.office import Office
 from registry_tools.output import NewFile
-from registry_tools.store.events import UPGRADED, Event, now
-from registry_tools.store.file import Store
+from registry_tools.store.events import Event, Events, now
 from registry_tools.texts.rows import bytes_of, rows_of
 
 TAG, FORM = "anchor", "anchor,AT,DATE,HEAD,ENGINE,SIGNATURE"
@@ -79,34 +78,28 @@ def head_of(word: str) -> str:
     return word
 
 
-def lines_of(store: Store) -> Iterator[str]:
-    """The lines of all events, before them those of the journal of a folder of an older version of which the file was
-    made."""
-    for event in store.events.all:
-        if event.what == UPGRADED:
-            yield from (line.rpartition(",")[2] for line in store.texts.lines(event.text))
-        yield event.line
-
-
-def not_grown(store: Store, head: str, date: datetime.date | None) -> FileFault | None:
-    """What shows that a folder has not grown from a head, whose last day was `date`; nothing, if it has."""
-    if any(line.startswith(head) for line in lines_of(store)):
+def not_grown(
+    there: Events, head: str, date: datetime.date | None, earlier: Collection[str] = ()
+) -> FileFault | None:
+    """What shows that a folder has not grown from a head, whose last day was `date`; nothing, if it has. `earlier` are
+    the lines of the journal of an older version of which its file was made."""
+    if any(line.startswith(head) for line in (*earlier, *(event.line for event in there.all))):
         return None
-    last = store.events.last()
+    last = there.last()
     found = f"no line with the head {head[:FEWEST_DIGITS]}"
     if date is None:
-        return FileFault(store.path, 0, "head", found, "a file that has grown from it; --date tells its last day")
+        return FileFault(there.path, 0, "head", found, "a file that has grown from it; --date tells its last day")
     if last is None or last.date < date:
         ends = f"its last day is {last.date}" if last else "no day is settled"
         expected = f"the day {date}, after which the head was taken: this is an earlier state, or another folder"
-        return FileFault(store.path, 0, "head", f"{found}: {ends}", expected)
-    expected = f"another history up to {date}: {parting(store, date)}"
-    return FileFault(store.path, 0, "head", found, expected)
+        return FileFault(there.path, 0, "head", f"{found}: {ends}", expected)
+    expected = f"another history up to {date}: {parting(there, date)}"
+    return FileFault(there.path, 0, "head", found, expected)
 
 
-def parting(store: Store, date: datetime.date) -> str:
+def parting(there: Events, date: datetime.date) -> str:
     """Up to when a folder and one with another head may have gone together."""
-    event: Event | None = next((own for own in reversed(store.events.days) if own.date <= date), None)
+    event: Event | None = next((own for own in reversed(there.days) if own.date <= date), None)
     return f"here {event.date} was filed by {event.who} at {event.at}" if event else "here no day is filed up to then"
 
 

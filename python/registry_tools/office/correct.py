@@ -231,7 +231,7 @@ class Correction:
         for last in reversed(self.days):
             said = {"of": last.id, "date": last.date, "first": last.first, "next": last.next}
             office.add(UNDONE, why=self.asked.why, approved=approved, **said)
-            daybook.remove_day(office.store.db, str(last.date))
+            daybook.remove_day(office.store.db, last.date)
         trial.forget(office)
 
     def closed(self, place: int, event: Event, reports: Reports | None) -> Settled:

@@ -78,7 +78,7 @@ def taken_back(office: Office, last: Event, again: datetime.date, why: str, appr
     later, and what was handed in since. Answers the place behind what the day was made of."""
     since, filed = approvals.handed_in_of(office), handed.for_a_day(office.store, last)
     office.add(UNDONE, of=last.id, date=last.date, first=last.first, next=last.next, why=why, approved=approved)
-    daybook.remove_day(office.store.db, str(last.date))
+    daybook.remove_day(office.store.db, last.date)
     trial.forget(office)
     there = HandedIn(office.store)
     hand_in_again(office, there, filed, again)

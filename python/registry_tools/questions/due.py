@@ -11,7 +11,7 @@ from registry_tools.calendars.due_days import head_after
 from registry_tools.calendars.ics import calendar_of
 from registry_tools.errors import FileFault
 from registry_tools.notes import MOST_TOLD, counted
-from registry_tools.office import composing, labels
+from registry_tools.office import approvals, composing, labels
 from registry_tools.office.office import Office
 from registry_tools.office.labels import Labels
 from registry_tools.office.next import about_date
@@ -139,7 +139,7 @@ def of_calendar(office: Office) -> Iterator[Due]:
     """The working days that lack a settlement, and where the calendar ends."""
     for date in missed_days(office):
         yield Due(date, MISSED, None, None, "it is over, and was not settled")
-    last = composing.working_days(office, composing.last_day(office), office.handed_in())[-1:]
+    last = composing.working_days(office, composing.last_day(office), approvals.handed_in_of(office))[-1:]
     for date in last:
         yield Due(date, CALENDAR, None, None, streams.by_name(NO_MORE))
 
