@@ -1,79 +1,28 @@
 """Commands that are killed, end, fail or are interrupted at one of their calls that change files, and how a folder of
-days stands then. It is looked at by SQLite alone, and by what commands say.
-"""
+days stands then."""
 from __future__ import annotations
 
-import contextlib
 import ctypes
 import errno
-import hashlib
 import os
-import re
 import shutil
 import signal
-import sqlite3
 import subprocess
 import sys
 import tempfile
 import time
 import traceback
-import zlib
 from collections.abc import Callable
 from pathlib import Path
 from typing import NoReturn
 
 from harness import TOP
+from offices import FILE, fault_of_file, state_of
 
 from registry_tools import main
 
 KILLED, FELL = 137, 70
 FAILURES = (errno.ENOSPC, errno.EROFS, errno.ENOMEM, errno.EIO)
-FILE = "registry.sqlite"
-KNOWN = {"office.ini", FILE}
-# Without when they were given.
-GIVEN_AT = re.compile(rb"[0-9-]{10}T[0-9:]{8}Z")
-# What an event has of its own time, and what has the sum of it.
-OF_ITS_TIME = {"at", "before", "line"}
-# What the last look saw: no answer rests on it.
-NO_STATE = {"events", "texts", "looked"}
-
-
-# How a folder stands.
-
-
-def opened(path: Path) -> contextlib.closing[sqlite3.Connection]:
-    """The file of a folder, as any program opens it."""
-    return contextlib.closing(sqlite3.connect(f"{(path / FILE).absolute().as_uri()}?mode=rw", uri=True))
-
-
-def state_of(path: Path) -> object:
-    """All that a folder says, without times: its events with their texts, and its tables."""
-    if not (path / FILE).exists():
-        return None
-    with opened(path) as db:
-        texts = {own: without_times(zlib.decompress(packed)) for own, packed in db.execute("SELECT sum, packed FROM texts")}
-        rows = db.execute("SELECT * FROM events ORDER BY id")
-        columns = [own[0] for own in rows.description]
-        events = [
-            tuple(texts.get(value, value) for name, value in zip(columns, row) if name not in OF_ITS_TIME) for row in rows
-        ]
-        named = "SELECT name FROM sqlite_master WHERE type = 'table' AND name NOT LIKE 'sqlite_%' ORDER BY name"
-        tables = [own for (own,) in db.execute(named) if own not in NO_STATE]
-        return events, sorted(texts.values()), {own: db.execute(f"SELECT * FROM {own}").fetchall() for own in tables}
-
-
-def without_times(content: bytes) -> str:
-    """What a text says, whenever it was written."""
-    return hashlib.sha256(GIVEN_AT.sub(b"", content)).hexdigest()
-
-
-def fault_of_file(path: Path) -> str | None:
-    """What SQLite finds wrong with the file of a folder, and whether something lies beside it."""
-    with opened(path) as db:
-        said = [own for (own,) in db.execute("PRAGMA integrity_check")]
-        keys = db.execute("PRAGMA foreign_key_check").fetchall()
-    left = sorted({own.name for own in path.iterdir()} - KNOWN)
-    return f"integrity_check {said}, foreign_key_check {keys}, beside it {left}" if said != ["ok"] or keys or left else None
 
 
 # Interrupted commands.
