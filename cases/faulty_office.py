@@ -1,38 +1,33 @@
-"""Trials of what goes wrong in an office: words that are typed again, files that are changed behind the folder's back,
-and days that nobody meant."""
-import errno
-import gzip
+"""Trials of what goes wrong in an office: words that are typed again, days that nobody meant, and tables that no
+spreadsheet saved so."""
 import hashlib
 import io
 import os
 import re
 import shutil
-import signal
 import subprocess
 import zipfile
+from collections.abc import Iterable, Iterator
 from pathlib import Path
-from typing import Callable, Iterable, Iterator
 from unittest import mock
 
-from damaged_office import CLOSE, DAY, ROW, Trial, Words, two_days, unchanged
+from damaged_office import CLOSE, DAY, ROW, Trial, Words, two_days
 from harness import TOP, Said, differs
-from offices import FIRST, must_do, new_office, told
+from offices import FIRST, events_of, must_do, must_do_either, new_office, text_of, told, unchanged
 
-from registry_tools.office import files, journal, prepared, settling
+from registry_tools.office import settling
 from registry_tools.second import rules
 from registry_tools.texts.day_text import read_day
 from registry_tools.calendars.due_days import due_day_after
 
 FIRST_DAY = "2025-03-31"
-Change = Callable[[bytes], bytes]
 
 
 def faulty_trials(work: Path) -> Iterator[Trial]:
     work.mkdir()
     for trials in (
-        believed_trials, named_day_trials, looked_trials, again_trials, engine_trials, signalled_trials,
-        left_trials, figure_trials, due_trials,
-        saved_trials, mending_trials, sent_trials,
+        named_day_trials, looked_trials, again_trials, engine_trials, left_trials, figure_trials, due_trials,
+        saved_trials, sent_trials,
     ):  # fmt: skip
         yield from trials(work)
 
@@ -94,7 +89,7 @@ def again_trials(work: Path) -> Iterator[Trial]:
     rows, done = work / "refused.csv", work / "two.csv"
     good, bad = ROW.format(5).replace(DAY, "2025-04-02"), ROW.format(5000).replace(DAY, "2025-04-02")
     rows.write_text(good + bad)
-    must_do_either([["hand-in", str(rows), *own], [*CLOSE, "2025-04-02", *own]])
+    must_do_either(["hand-in", str(rows), *own], [*CLOSE, "2025-04-02", *own])
     whole = [f"{rows}: file: found the same as was handed in for 2025-04-02", f"another file; --again {rows}:1"]
     yield "a file of which a row is done", unchanged(office, 3, whole, "hand-in", rows, *own)
     rows.write_text(bad)
@@ -131,18 +126,8 @@ def first_again_trials(work: Path) -> Iterator[Trial]:
     yield "the account that is named", told(0, ["accounts 2"], "hand-in", block, "--again", f"{block}:1", *own)
 
 
-def must_do_either(commands: list[list[str]]) -> None:
-    """Runs commands that find something."""
-    for words in commands:
-        said = Said(*words)
-        assert said.status in (0, 1), said
+# The engine of a day.
 
-
-# The engine of a day, and folders whose journal has none.
-
-# Before lines had an engine, and before they had a login.
-OLD_HEADING = "event,at,who,date,first,next,day,report,do,changes,edits,work,waiting,handed,why,before,line"
-ENGINE_HEADING = OLD_HEADING.replace(",why", ",labels,engine,why")
 COMMIT = "0123456789ab"
 
 
@@ -184,7 +169,6 @@ def engine_trials(work: Path) -> Iterator[Trial]:
         shutil.rmtree(copy)
         must_do(["undo", DAY, *why, *own])
     yield "a program that says no version", engine_fault(work)
-    yield from old_trials(work)
 
 
 def engine_fault(work: Path) -> object:
@@ -196,179 +180,7 @@ def engine_fault(work: Path) -> object:
     return differs(engine.row(), "program - - unproved")
 
 
-def as_before(office: Path, heading: str) -> None:
-    """Makes a folder what it was when lines had these columns: the sums of its lines and of who handed in what, and
-    next/."""
-    there = journal.read(office / "journal.csv")
-    begins = before = hashlib.sha256(heading.encode()).hexdigest()
-    text, lines = heading, {there.beginning: begins}
-    for event in there.events:
-        said = {**dict.fromkeys(journal.FILES, ""), **event.sums, **vars(event), "before": before}
-        path = office / "days" / str(event.date) / journal.FILES["handed"]
-        if event.event == "filed":
-            without_logins(path, lines)
-            said["handed"] = hashlib.sha256(path.read_bytes()).hexdigest()
-        body = ",".join(str(said[name]) for name in heading.split(",")[:-1])
-        before = lines[event.line] = hashlib.sha256(body.encode()).hexdigest()
-        text += f"\n{body},{before}"
-    (office / "journal.csv").write_text(f"{text}\n")
-    without_logins(office / "next" / "journal.csv", lines)
-
-
-def without_logins(path: Path, lines: dict[str, str]) -> None:
-    """Makes a file of who handed in what as it was before it had logins, behind an older line."""
-    base, *rest = path.read_text().splitlines()
-    rows = [row.rpartition(",")[0] for row in rest]
-    path.write_text("\n".join([f"base,{lines[base.partition(',')[2]]}", *rows, ""]))
-
-
-def old_trials(work: Path) -> Iterator[Trial]:
-    """A folder whose journal has no login, or no engine either, is read, and led on: with another heading."""
-    office, own = two_days(work, "before-logins")
-    as_before(office, ENGINE_HEADING)
-    yield from led_on_trials(office, own)
-    office, own = two_days(work, "old")
-    as_before(office, OLD_HEADING)
-    yield "status of an old folder", told(0, ["settled by: not known: the journal does not say it"], "status", *own)
-    yield "audit of it", told(0, [": 0 differences"], "audit", "--second", *own)
-    has = [f"{DAY} was settled before the journal told by which engine"]
-    yield "release of its last day", unchanged(office, 1, has, "release", DAY, "--why", "sent", *own)
-    yield from led_on_trials(office, own)
-    for name, heading in (("unsettled", OLD_HEADING), ("unsettled-later", ENGINE_HEADING)):
-        unsettled = work / name
-        must_do(["init", str(unsettled), str(FIRST)])
-        as_before(unsettled, heading)
-        yield f"an old folder without days: {name}", told(0, ["is settled"], *CLOSE, FIRST_DAY, "--office", unsettled)
-        yield f"audit of {name}", told(0, ["events 1, days 1, ", ": 0 differences"], "audit", "--office", unsettled)
-
-
-def led_on_trials(office: Path, own: list[str]) -> Iterator[Trial]:
-    """A folder of an older journal is led on behind one more heading, which it needs."""
-    path = office / "journal.csv"
-    yield "audit of an older folder", told(0, [": 0 differences"], "audit", "--second", *own)
-    must_do(["undo", DAY, "--why", "a slip", *own], [*CLOSE, DAY, *own])
-    rows = path.read_text().splitlines()
-    headings = [place for place, row in enumerate(rows) if row.startswith("event,")]
-    yield "its headings", differs(headings, [0, 3])
-    yield "its new heading", differs(rows[3], journal.HEADING)
-    yield "audit behind it", told(0, ["events 4, days 2, ", ": 0 differences"], "audit", *own)
-    yield "release of what was closed since", told(0, ["is released"], "release", DAY, "--yes", "--why", "sent", *own)
-    whole = path.read_text()
-    path.write_text("\n".join([*rows[:3], *rows[4:], ""]))
-    yield "without its second heading", told(3, ["journal.csv:4: line: found"], "status", *own)
-    path.write_text(whole)
-
-
-# Filed files that somebody changed.
-
-
-def packed(old: bytes, new: bytes) -> Change:
-    """A change of a packed file that leaves it one which each reader takes."""
-    return lambda content: gzip.compress(gzip.decompress(content).replace(old, new))
-
-
-def without(_content: bytes) -> bytes:
-    return b""
-
-
-# What is changed in files of the first day: the same in both of a pair, and what is nowhere else.
-BELIEVED: dict[str, dict[str, Change]] = {
-    "a balance": {
-        name: packed(b",13,open,no,no,0,0,50", b",13,open,no,no,0,0,51") for name in ("day.csv.gz", "report.csv.gz")
-    },
-    "a name": {"handed-in.csv": lambda content: re.sub(rb"^(handed,[^,]*),[^,]*", rb"\1,eve", content, flags=re.M)},
-    "no rows": {"do.csv": without},
-    "no changes": {"edits.csv": without, "handed-in.csv": lambda content: content.splitlines(True)[0]},
-}
-# What asks for these files, of the first day.
-OF_PAIR: list[Words] = [
-    ["find"], ["balance", "3", "--on", DAY], ["history", "3"], ["month"], ["send", "--day", DAY], ["db"],
-    ["verify", "--day", DAY], ["statements", "--day", DAY], ["compliance", "--day", DAY], ["page", "--day", DAY],
-    ["log", "--day", DAY], ["export", "--accounts", "--day", DAY], ["explain", "--day", DAY],
-]  # fmt: skip
-WRITES = {"month", "send", "db", "statements", "page"}
-
-
-def believed_trials(work: Path) -> Iterator[Trial]:
-    """A file of a past day is compared by whatever reads it, though its pair agrees and only audit asked so far."""
-    office, own = two_days(work, "believed")
-    change: Words = ["change", "2", "--outside", "yes", "--why", "a letter", "--yes"]
-    must_do(["undo", DAY, "--why", "a slip", *own], [*map(str, change), *own])
-    must_do([*CLOSE, DAY, *own], [*CLOSE, "2025-04-02", *own], [*CLOSE, "2025-04-03", *own])
-    again, made = work / "again.csv", work / "made"
-    again.write_text(ROW.format(7))
-    for what, changes in BELIEVED.items():
-        kept = {name: (office / "days" / DAY / name).read_bytes() for name in changes}
-        for name, other in changes.items():
-            path = office / "days" / DAY / name
-            path.write_bytes(other(kept[name]))
-            assert path.read_bytes() != kept[name]
-        asked = OF_PAIR if "day.csv.gz" in changes else [["page", "--day", DAY], ["changes"]]
-        asked = [["hand-in", again]] if "do.csv" in changes else asked
-        told_of = "handed-in.csv" if "handed-in.csv" in changes else min(changes)
-        for words in asked:
-            to = [made] if words[0] in WRITES else []
-            mends = f"somebody changed it; put it back as it was filed: ./day mend {DAY} may make it again"
-            has = [f"days/{DAY}/{told_of}: SHA-256: found ", mends]
-            yield f"{words[0]} of {what} that somebody changed", unchanged(office, 3, has, *words, *to, *own)
-            yield f"{words[0]} of it leaves nothing", "something is there" if made.exists() else None
-            shutil.rmtree(made, ignore_errors=True)
-            made.unlink(missing_ok=True)
-        for name, content in kept.items():
-            (office / "days" / DAY / name).write_bytes(content)
-    said = Said("balance", "3", "--on", "2025-04-03", *own)
-    yield "a balance of what was put back", str(said) if said.status else told(0, [": 0 diff"], "audit", *own)
-
-
-# What comes behind the one step of a command.
-
-
-def signalled(target: str, words: Words) -> tuple[int | str | None, str]:
-    """How a command ends that is interrupted as soon as the file or folder of this name has got it, and what it
-    says."""
-    replace = os.replace
-    done: list[str] = []
-
-    def then_interrupted(old: str, new: str, src_dir_fd: int | None = None, dst_dir_fd: int | None = None) -> None:
-        replace(old, new, src_dir_fd=src_dir_fd, dst_dir_fd=dst_dir_fd)
-        where = "" if dst_dir_fd is None else os.readlink(f"/proc/self/fd/{dst_dir_fd}")
-        if os.path.join(where, new) == target and not done:
-            done.append(new)
-            os.kill(os.getpid(), signal.SIGINT)
-
-    with mock.patch.object(os, "replace", then_interrupted):
-        said = Said(*words)
-    return (said.status, said.output + said.errors) if done else (None, f"it makes no {target}: {said}")
-
-
-def signalled_trials(work: Path) -> Iterator[Trial]:
-    """Whoever interrupts a command behind its one step, or whose disk is full then, is told what it did."""
-    office, own = two_days(work, "signalled")
-    rows, there = work / "rows.csv", work / "there"
-    rows.write_text(ROW.format(3))
-    why, third = ["--why", "a slip"], "2025-04-02"
-    steps: list[tuple[str | Path, Words, str]] = [
-        ("journal.csv", [*CLOSE, third], f"{third} is settled"), ("journal.csv", ["undo", third, *why], "is undone"),
-        ("next/journal.csv", ["hand-in", rows], "handed in: rows.csv"),
-        ("next/journal.csv", ["take-back", 1, *why], "taken back: place 1"),
-        ("next/journal.csv", ["change", 2, "--holder", 7, *why, "--yes"], "handed in for "),
-        ("journal.csv", ["release", DAY, *why, "--yes"], "is released"), (there / "db", ["db", there / "db"], "days 2"),
-        (there / "month", ["month", there / "month"], "days 2"), (there / "send", ["send", there / "send"], "packages"),
-        (there / "new", ["init", there / "new", FIRST], "the first text is that of"),
-    ]  # fmt: skip
-    there.mkdir()
-    for target, words, has in steps:
-        of_folder = [] if words[0] == "init" else own
-        status, says = signalled(os.path.realpath(office / target), [*words, *of_folder])
-        if status is None:
-            status, says = signalled(str(office / target), [*words, *of_folder])
-        yield f"{words[0]} that is interrupted behind its step", None if status == 0 and has in says else (status, says)
-    no_room = OSError(errno.ENOSPC, "No space left on device")
-    left = [f"{third} is filed; the next command puts the rest in place: ", f"{third} is settled by the second answer"]
-    with mock.patch.object(prepared, "put_in_place", side_effect=no_room):
-        yield "close on a disk that is full behind its step", told(0, left, *CLOSE, third, *own)
-    yield "the next command", told(0, [f"{third} is filed, and all is in its place now"], "status", *own)
-    yield "audit behind all this", told(0, [": 0 differences"], "audit", *own)
+# What is left beside an answer.
 
 
 def left_trials(work: Path) -> Iterator[Trial]:
@@ -388,15 +200,6 @@ def left_trials(work: Path) -> Iterator[Trial]:
         path.write_text("mine\n")
     must_do(["send", str(there / "sent"), *own])
     yield "what is left", differs(sorted(path.name for path in there.iterdir()), sorted([*names(kept), "sent"]))
-    office, own = two_days(work, "left-next")
-    rows = work / "left.csv"
-    rows.write_text(ROW.format(3))
-    change: Words = ["change", 2, "--holder", 7, "--why", "a letter", "--yes"]
-    for words in (["hand-in", rows], change):
-        before = names((office / "next").iterdir())
-        with mock.patch.object(files, "step", side_effect=KeyboardInterrupt):
-            status = Said(*words, *own).status
-        yield f"{words[0]} that is interrupted", differs((status, names((office / "next").iterdir())), (130, before))
 
 
 def names(paths: Iterable[Path]) -> list[str]:
@@ -421,8 +224,10 @@ def figure_trials(work: Path) -> Iterator[Trial]:
 
 def due_trials(work: Path) -> Iterator[Trial]:
     """The due day of what waits is what the rules say, whatever lag they have."""
-    office, own = two_days(work, "due")
-    day = read_day(str(office / "days" / DAY / "day.csv.gz"))
+    office, _ = two_days(work, "due")
+    text = work / "due.csv"
+    text.write_bytes(text_of(office, DAY))
+    day = read_day(str(text))
     i = rules.read_instruction(f"{DAY},101,102,surrender,1,general,1".split(","))
 
     def with_new_lag(asked: rules.Asked) -> object:
@@ -461,55 +266,19 @@ def open_document(kind: str) -> bytes:
     return content.getvalue()
 
 
-def mending_trials(work: Path) -> Iterator[Trial]:
-    """Each finding of an audit says how it is mended."""
-    office, own = two_days(work, "mending")
-    day = office / "days" / DAY
-    changes: dict[Path, Change] = {
-        day / "do.csv": without, office / "next" / "waits.csv": without, day / "note.txt": lambda _: b"mine\n",
-        office / "days" / "notes" / "x": lambda _: b"mine\n", office / "next" / "mine.csv": lambda _: b"mine\n",
-        office / "journal.csv": lambda content: content.replace(b"filed", b"filex", 1),
-    }  # fmt: skip
-    mends = [
-        "put it back as it was filed", "./day undo and ./day close of the last day write it anew", "move it to another",
-        "move it to another", "move it to another folder", "put the journal back from a copy",
-    ]  # fmt: skip
-    for (path, change), mend in zip(changes.items(), mends):
-        kept = path.read_bytes() if path.exists() else None
-        path.parent.mkdir(exist_ok=True)
-        path.write_bytes(change(kept or b""))
-        said = Said("audit", *own)
-        *found, _ = said.output.splitlines()
-        first = ("mend the files of this day first", "mend the journal first")
-        wrong = [line for line in found if mend not in line and not any(words in line for words in first)]
-        has_it = any(mend in line for line in found)
-        yield f"audit of {path.name}", None if said.status == 1 and has_it and not wrong else str(said)
-        if kept is None:
-            path.unlink()
-        else:
-            path.write_bytes(kept)
-        if path.parent.name == "notes":
-            path.parent.rmdir()
-
-
 def sent_trials(work: Path) -> Iterator[Trial]:
     """Letters of a day that may still be undone, and with names that were changed since."""
     office, own = two_days(work, "sent")
-    labels = office / "labels.csv"
-    labels.write_text("holder,11,Stahl\nholder,12,Handel\n")
-    must_do(["undo", DAY, "--why", "a slip", *own], [*CLOSE, DAY, *own])
     has = [f"LOOK AT THIS: {DAY} is not released: it may be undone behind its letters"]
     yield "send of a day that is not released", told(0, has, "send", work / "sent-1", *own)
     doubt = [f"--release: {DAY} was settled by the second answer alone, not proved; ./day release {DAY} --yes"]
     letters: Words = ["send", "--release", *own]
     yield "send --release of what nothing proves", unchanged(office, 2, doubt, *letters, work / "sent-2")
-    labels.write_text("holder,12,Stahl\nholder,11,Handel\n")
-    has = [f"LOOK AT THIS: {labels}: SHA-256: found ", "the next close or release keeps the new ones"]
-    yield "send with names that were swapped", told(0, has, "send", work / "sent-3", *own)
-    yield "audit of names that were swapped", told(1, [f"{labels}: SHA-256: found ", ": 1 difference"], "audit", *own)
+    why = ["--why", "a letter", *own]
+    must_do(["label", "holder", "11", "Stahl", *why], ["label", "holder", "12", "Handel", *why])
     with mock.patch.object(settling, "SECOND_ANSWER", settling.Engine("program", "1.0", COMMIT, settling.PROVED)):
         must_do([*CLOSE, "2025-04-02", *own])
-    yield "names that were meant to change", told(0, [": 0 differences"], "audit", *own)
+    yield "audit of it", told(0, [": 0 differences"], "audit", *own)
     yield "send --release into a folder with files", told(3, [" a folder with files in it"], *letters, work)
     yield "it releases nothing", told(0, ["not released"], "status", *own)
     has = ["2025-04-02 is released: it is not undone any more", "packages "]

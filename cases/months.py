@@ -3,7 +3,6 @@ give by paths. cases/months_of_three.py has those of three people. For cases/run
 from __future__ import annotations
 
 import datetime
-import gzip
 import random
 import shutil
 from collections.abc import Iterator
@@ -11,9 +10,9 @@ from pathlib import Path
 
 from drawing import Heading, Instructions, drawn_book
 from harness import Said
-from interrupted import FAILURES, Interrupted, interrupted_trial, restore, state_of
+from interrupted import FAILURES, Interrupted, interrupted_trial, restore
+from offices import rows_of, state_of, text_of
 
-from registry_tools.office import folder
 from registry_tools.second import rules
 from registry_tools.texts.report import read_report
 
@@ -60,9 +59,7 @@ class Month:
         self.interrupted += 1
         restore(self.office, kept)
         number, error = self.chance.randint(1, count), self.chance.choice([0, 0, *FAILURES])
-        # (several places are approved one after another)
-        in_parts = words[0] == "approve" and sum(word.isdecimal() for word in words) > 1
-        wrong = interrupted_trial(runs, self.office, words, number, error, (begun, ended), status, in_parts)
+        wrong = interrupted_trial(runs, self.office, words, number, error, (begun, ended), status)
         return wrong and f"{words}: {'fails' if error else 'ends'} at call {number} of {count}: {wrong}"
 
     def instructions(self) -> list[str]:
@@ -96,11 +93,15 @@ class Month:
         again = again if kind == "do" else []
         self.wrong = self.wrong or self.run("hand-in", path, *again)
         if kind == "do" and self.chance.random() < 0.3:
-            there = folder.read_office(self.office).handed_in()
+            first = self.first_place()
             self.wrong = self.wrong or self.run("hand-in", path, *again)
-            places = range(there.end, there.end + len(rows))
+            places = range(first, first + len(rows))
             self.wrong = self.wrong or self.run("take-back", *places, "--why", "twice")
         return path
+
+    def first_place(self) -> int:
+        """The place behind all that was handed in."""
+        return rows_of(self.office, "SELECT coalesce(max(start + count), 1) FROM handed_for_the_next_day")[0][0]
 
     def next(self, place: int) -> str | None:
         """One more day: by paths, and by the folder."""
@@ -151,10 +152,9 @@ class Month:
         return None
 
     def compare(self, date: datetime.date, text: Path, report: Path) -> str | None:
-        place = self.office / "days" / str(date)
-        for name, expected in (("day.csv.gz", text), ("report.csv.gz", report)):
-            if gzip.decompress((place / name).read_bytes()) != expected.read_bytes():
-                return f"{place / name} is not {expected}"
+        for column, expected in (("text", text), ("report", report)):
+            if text_of(self.office, str(date), column) != expected.read_bytes():
+                return f"the {column} of {date} is not {expected}"
         return None
 
     def trial(self) -> str | None:

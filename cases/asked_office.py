@@ -1,20 +1,19 @@
-"""The index of a folder of days: what asks it answers as the files do, wherever it is not what it must be, and `audit`
-compares it with them. And the variable that names a folder."""
+"""Questions over all days: a folder answers them as its days do by paths, and unpacks no day that nobody asks for. And
+the variable that names a folder."""
 import contextlib
 import os
 import re
 import shutil
 import sqlite3
-from collections.abc import Callable, Iterator
+from collections.abc import Iterator
 from pathlib import Path
 from unittest import mock
 
-from damaged_office import Trial, Words, unchanged
+from damaged_office import Trial, Words, inside
 from harness import TOP, Said, differs
-from offices import must_do
+from offices import events_of, must_do, rows_of, text_of
 
-from registry_tools.office import past
-from registry_tools.office.close import inside
+from registry_tools.store.texts import Texts
 
 WEEK = TOP / "examples" / "week"
 # A transfer of more than a column can hold, which is refused.
@@ -37,17 +36,12 @@ QUESTIONS: list[Words] = [
 ]  # fmt: skip
 
 
-def indexed_trials(work: Path) -> Iterator[Trial]:
+def asked_trials(work: Path) -> Iterator[Trial]:
     work.mkdir()
     office = week(work)
     own = ["--office", str(office)]
-    yield from equal_trials(work, office, "an index that every close has kept up")
+    yield from equal_trials(work, office, "days that were closed")
     yield from unread_trials(work, office)
-    for what, spoil in SPOILED.items():
-        spoil(office)
-        yield from equal_trials(work, office, what)
-        yield f"audit behind {what}", told_by_audit(own, 0, ": 0 differences")
-    yield from changed_trials(office, own)
     must_do(["undo", "2025-09-25", "--why", "a slip", *own])
     yield from equal_trials(work, office, "a day that was undone")
     close(office, "2025-09-26")
@@ -78,14 +72,19 @@ def close(office: Path, date: str) -> None:
     must_do(["close", "--second", "--yes", "--date", date, "--office", str(office)])
 
 
-def pairs_of(office: Path) -> list[Path]:
-    days = sorted((office / "days").iterdir())
-    return [day / name for day in days for name in ("day.csv.gz", "report.csv.gz")]
+def pairs_of(work: Path, office: Path) -> list[Path]:
+    """The days that count and their reports, as files."""
+    paths = []
+    for (date,) in rows_of(office, "SELECT date FROM filed"):
+        for column in ("text", "report"):
+            paths.append(work / f"{date}-{column}.csv")
+            paths[-1].write_bytes(text_of(office, date, column))
+    return paths
 
 
 def equal_trials(work: Path, office: Path, what: str) -> Iterator[Trial]:
     """Whether each question is answered by the folder as by its pairs, whose books are all read."""
-    pairs = ["--pairs", *pairs_of(office)]
+    pairs = ["--pairs", *pairs_of(work, office)]
     for words in QUESTIONS:
         said, expected = Said(*words, "--office", office), Said(*words, *pairs)
         same = (said.status, said.output, said.errors) == (expected.status, expected.output, expected.errors)
@@ -132,55 +131,19 @@ def letters_fault(of_folder: dict[str, str], of_pairs: dict[str, str]) -> str | 
     return f"others than by paths: {sorted(wrong)}" if wrong else None
 
 
-def spoiled(office: Path, statement: str) -> None:
-    with contextlib.closing(sqlite3.connect(office / "index.sqlite")) as database:
-        database.execute(statement)
-        database.commit()
-
-
-# What may have become of an index, so that the next question has to make it anew.
-SPOILED: dict[str, Callable[[Path], object]] = {
-    "no index": lambda office: (office / "index.sqlite").unlink(),
-    "an index that is no database": lambda office: (office / "index.sqlite").write_bytes(b"no database" * 99),
-    "an empty index": lambda office: (office / "index.sqlite").write_bytes(b""),
-    "an index of other tables": lambda office: spoiled(office, "PRAGMA user_version = 77"),
-    "an index that lacks days": lambda office: spoiled(office, "DELETE FROM filed WHERE date > '2025-09-23'"),
-    "an index of another journal": lambda office: spoiled(office, "UPDATE filed SET line = 'x' WHERE rowid = 3"),
-}  # fmt: skip
-
-
 def unread_trials(work: Path, office: Path) -> Iterator[Trial]:
-    """With an index up to the journal nothing unpacks a day but the last one, so that time and memory are those of a
-    day, however many there are."""
-    asked: list[tuple[Words, int]] = [
-        (["balance", 200045, "--on", "2025-09-22"], 0), (["find", "--refused"], 0), (["history", 100377], 0),
-        (["month", work / "unread.html"], 1), (["send", work / "unread", "--from", "2025-09-22"], 1),
+    """Nothing unpacks a day but the last one, so that time and memory are those of a day, however many there are."""
+    last = events_of(office, "report", what="filed")[-1]
+    asked: list[Words] = [
+        ["balance", 200045, "--on", "2025-09-22"], ["find", "--refused"], ["history", 100377],
+        ["month", work / "unread.html"], ["send", work / "unread", "--from", "2025-09-22"],
     ]  # fmt: skip
-    for words, days in asked:
-        with mock.patch.object(past, "read", wraps=past.read) as read:
+    reports = {*events_of(office, "report", what="filed")} - {last}
+    for words in asked:
+        with mock.patch.object(Texts, "get", autospec=True, side_effect=Texts.get) as get:
             said = Said(*words, "--office", office)
-        yield f"{words[0]} unpacks {days} days", differs(read.call_count, days) if said.status == 0 else said
-
-
-def changed_trials(office: Path, own: list[str]) -> Iterator[Trial]:
-    """A row that somebody changed is told by audit; and so is an index that cannot be asked at all."""
-    index = office / "index.sqlite"
-    kept = index.read_bytes()
-    for table, statement in {
-        "totals": "UPDATE totals SET held = held + 1 WHERE date = '2025-09-24'",
-        "log": "UPDATE log SET is_done = 1 - is_done WHERE record = 61008",
-        "held": "DELETE FROM held WHERE record = 61001",
-        "users": "INSERT INTO users SELECT min(account), date, 7, 'both' FROM totals JOIN accounts_by_day USING (date)",
-    }.items():
-        spoiled(office, statement)
-        yield f"audit of {table}", told_by_audit(own, 1, f"index.sqlite: {table}: found ", "take ", ": 1 difference")
-        index.write_bytes(kept)
-    spoiled(office, "DROP TABLE held")
-    has = ["index.sqlite: it cannot be read or written: no such table: held", "take it away, and it is made anew"]
-    yield "an index without a table", unchanged(office, 3, has, "history", 100210, *own)
-    index.write_bytes(kept)
-    shutil.copystat(office / "journal.csv", pairs_of(office)[0])
-    yield "a file with another time", None if Said("find", *own).status == 0 else "its sum is not asked"
+        unpacked = [own.args[1][:12] for own in get.call_args_list if own.args[1] in reports]
+        yield f"{words[0]} unpacks no day before the last one", differs(unpacked, []) if said.status == 0 else said
 
 
 def named_trials(work: Path, office: Path) -> Iterator[Trial]:
@@ -209,8 +172,3 @@ def variable(value: str) -> Iterator[None]:
         yield
     finally:
         del os.environ["REGISTRY_OFFICE"]
-
-
-def told_by_audit(own: list[str], status: int, *has: str) -> object:
-    said = Said("audit", *own)
-    return None if said.status == status and all(part in said.output for part in has) else str(said)
