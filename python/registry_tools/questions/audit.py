@@ -7,6 +7,7 @@ import sqlite3
 from collections.abc import Callable, Iterator
 from dataclasses import dataclass, field
 from pathlib import Path
+from typing import NamedTuple
 
 from registry_tools.errors import FileFault, UnwrittenFault, WordsFault, of_file, shown
 from registry_tools.notes import counted
@@ -49,6 +50,13 @@ class Audit:
     anchors: str | None = None
 
 
+class Given(NamedTuple):
+    """What was handed in for a day: the rows of the first text, if it is that, and a text of each kind."""
+
+    first_rows: list[str] | None
+    contents: dict[str, bytes]
+
+
 @dataclass
 class Found:
     """What was found. `text_of` tells by which name a text of a day is read."""
@@ -63,10 +71,21 @@ class Found:
     # Whether the events are what they were: else days are not mended by commands.
     has_events: bool = True
 
-    @property
-    def mend(self) -> str:
+    def mending(self, _date: datetime.date) -> str:
         """How a difference of a day is mended."""
         return SETTLE_AGAIN if self.has_events else FILE_FIRST
+
+    def given(self, event: Event, _day: DayText) -> "Given":
+        """What was handed in for a day."""
+        filed = handed.for_a_day(self.office.store, event)
+        if filed.first is None:
+            return Given(None, filed.contents())
+        rows = filed.rows(filed.first).rows
+        return Given(rows[: len(rows) - (rows[-1:] == ["end"])], filed.contents())
+
+    def says(self) -> str:
+        """What says when a day was filed, and with which records."""
+        return str(self.office.store.path)
 
     def add(self, *faults: FileFault | None, mend: str = "") -> None:
         """Adds what was found, each once, and how it is mended."""
@@ -198,7 +217,7 @@ def look_at_days(found: Found, asked: Audit) -> None:
         if event.date < asked.begin:
             continue
         own: Filed | None = None
-        with found.adding(found.mend):
+        with found.adding(found.mending(event.date)):
             own = look_at_day(found, event, before, asked.by_program, asked.by_second)
         if own and again and (before or event is days[0]):
             with found.adding():
@@ -232,68 +251,67 @@ def look_at_day(found: Found, event: Event, before: Filed | None, by_program: bo
     day = read_day(found.text_of(event, "text"), before and before[2].known(before[1]))
     report = read_report(found.text_of(event, "report"), day)
     found.pairs += 1
-    found.add(*differences(day, report), mend=found.mend)
+    mend = found.mending(event.date)
+    found.add(*differences(day, report), mend=mend)
     for name, there, expected in (
         ("date", day.head.date, event.date),
         ("first", day.head.next_record, event.first),
         ("next", report.next_record, event.next),
     ):
         if there != expected:
-            says = f"{expected}, as {found.office.store.path} says"
-            found.add(FileFault(day.path, day.line_of_tag("day"), name, there, says), mend=found.mend)
+            says = f"{expected}, as {found.says()} says"
+            found.add(FileFault(day.path, day.line_of_tag("day"), name, there, says), mend=mend)
     look_at_seam(found, event, day, report, before)
     text = bytes_of(report.path)
     if by_program:
         # (the pair was read: the next day is looked at behind it)
-        with found.adding(found.mend):
+        with found.adding(mend):
             settled = settling.by_engine(named_program(found.office), bytes_of(day.path), day.path)
-            compare_texts(found, report.path, text, settled, "the program")
+            compare_texts(found, report.path, text, settled, "the program", mend)
     if by_second:
-        compare_texts(found, report.path, text, settling.by_rules(day), "the second answer")
+        compare_texts(found, report.path, text, settling.by_rules(day), "the second answer", mend)
     return event, day, report
 
 
 def look_at_seam(found: Found, event: Event, day: DayText, report: Report, before: Filed | None) -> None:
     """Whether the day's text, and what waits before and behind it, are what the day before and what was handed in
     make."""
-    filed = handed.for_a_day(found.office.store, event)
-    if not filed.first and before is None:
+    given, mend = found.given(event, day), found.mending(event.date)
+    if given.first_rows is None and before is None:
         return
     waiting = found.text_of(event, "waiting")
-    if filed.first:
-        first = filed.rows(filed.first).rows
-        end = len(first) - (first[-1:] == ["end"])
-        rows = [*first[:end], *(row for item in filed.items(handed.DO) for row in item.rows), "end"]
-        made = composing.NextDay(event.date, event.first, text_of_rows(rows), [], [], [])
+    if given.first_rows is not None:
+        new = given.contents[handed.DO].decode("utf-8", "surrogateescape").splitlines()
+        text = text_of_rows([*given.first_rows, *new, "end"])
+        made = composing.NextDay(event.date, event.first, text, [], [], [])
     else:
-        made = later_again(found, event, filed, before)
-    compare_texts(found, day.path, bytes_of(day.path), made.text, "what was handed in")
-    compare_texts(found, waiting, bytes_of(waiting), made.waiting_text(), "what was handed in")
+        made = later_again(found, event, given, before)
+    compare_texts(found, day.path, bytes_of(day.path), made.text, "what was handed in", mend)
+    compare_texts(found, waiting, bytes_of(waiting), made.waiting_text(), "what was handed in", mend)
     if event.waits:
         behind = found.text_of(event, "waits")
-        compare_texts(found, behind, bytes_of(behind), waits_text(day, report, waiting), f"the day {event.date}")
+        compare_texts(found, behind, bytes_of(behind), waits_text(day, report, waiting), f"the day {event.date}", mend)
 
 
-def later_again(found: Found, event: Event, filed: handed.HandedIn, before: Filed | None) -> composing.NextDay:
+def later_again(found: Found, event: Event, given: Given, before: Filed | None) -> composing.NextDay:
     """The day made once more of what was handed in for it. Raises FileFault if that cannot be done."""
     assert before is not None
     last, day, report = before
-    name, waiting = f"{found.office.store.path}/{event.date}", found.text_of(last, "waiting")
+    name, waiting = found.text_of(event, "text").rpartition("/")[0], found.text_of(last, "waiting")
     try:
-        return composing.later_text(day, report, event.date, filed.contents(), waiting, name)
+        return composing.later_text(day, report, event.date, given.contents, waiting, name)
     except WordsFault as fault:
         raise of_file(name, str(fault)) from None
 
 
-def compare_texts(found: Found, path: str | Path, text: bytes, expected: bytes, whose: str) -> None:
+def compare_texts(found: Found, path: str | Path, text: bytes, expected: bytes, whose: str, mend: str) -> None:
     """Tells the first row in which a text is not what is expected."""
     if text == expected:
         return
     rows, others = (content.decode("utf-8", "surrogateescape").split("\n") for content in (text, expected))
     pairs = itertools.zip_longest(rows, others)
     number, row, other = next((number, *pair) for number, pair in enumerate(pairs, 1) if pair[0] != pair[1])
-    fault = FileFault(path, number, "row", row_in_words(row), f"{row_in_words(other)}, by {whose}")
-    found.add(fault, mend=found.mend)
+    found.add(FileFault(path, number, "row", row_in_words(row), f"{row_in_words(other)}, by {whose}"), mend=mend)
 
 
 def row_in_words(row: str | None) -> str:

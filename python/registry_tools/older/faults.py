@@ -1,0 +1,114 @@
+"""What is wrong with a folder of version 1.1, in the words of its audit."""
+import datetime
+from dataclasses import dataclass, field
+from pathlib import Path
+
+from registry_tools.errors import FileFault
+from registry_tools.notes import counted
+from registry_tools.older import handed, journal
+from registry_tools.older.folder import PUT_BACK, Folder
+from registry_tools.older.handed import MERGED, HandedIn
+from registry_tools.older.journal import Event
+from registry_tools.questions.audit import Found, Given
+from registry_tools.store import events
+from registry_tools.texts.day_text import DayText
+from registry_tools.texts.rows import KeptText
+
+# How what is found is mended.
+JOURNAL_BACK = "put the journal back from a copy: audit --anchors tells whether it is the right one"
+JOURNAL_FIRST = "mend the journal first, and audit again"
+FILES_FIRST = "mend the files of this day first, and audit again"
+SETTLE_AGAIN = "./day undo takes the days back to this one, to be closed again; if released, a later day corrects it"
+AWAY, NEXT_BACK = "move it to another folder", "put it back from a copy, or take it back and hand it in again"
+WAITS_BACK = "put it back from a copy: else ./day undo and ./day close of the last day write it anew"
+APPROVES_NOTHING = "take the file away: it approves nothing"
+SAY_AGAIN = "take it back, and hand it in once more"
+# The files of a day, by the columns of its event.
+KEY_OF = {"text": "day", "report": "report", "waiting": "waiting"}
+
+
+@dataclass
+class OlderFound(Found):
+    """What was found of an older folder: its days are looked at as those of today are, by the names of its files."""
+
+    folder: Folder = field(kw_only=True)
+    # The events of the journal by the date of their day, and the days whose files are not as they were filed.
+    filed: dict[datetime.date, Event] = field(default_factory=dict)
+    changed: set[datetime.date] = field(default_factory=set)
+    away: str = AWAY
+
+    def mending(self, date: datetime.date) -> str:
+        """How a difference of a day is mended: first the journal or files, if they are not as they were filed."""
+        if self.away == JOURNAL_FIRST:
+            return JOURNAL_FIRST
+        before = [own for own in self.changed if own < date]
+        if date in self.changed or not before:
+            return FILES_FIRST if date in self.changed else SETTLE_AGAIN
+        return f"mend the files of {max(before)} first, and audit again"
+
+    def add(self, *faults: FileFault | None, mend: str = "") -> None:
+        """Adds what was found, and how it is mended, each once: a file that lacks is missed by each that reads it."""
+        for fault in filter(None, faults):
+            # (what to do about it is said by the first one alone)
+            told = str(fault) if fault.expected else str(fault).partition(";")[0]
+            if told not in self.told:
+                self.told.add(told)
+                self.faults.append(fault)
+                if mend and PUT_BACK not in str(fault):
+                    words = "expected" if fault.expected else "found"
+                    setattr(fault, words, f"{getattr(fault, words)}; {mend}")
+
+    def given(self, event: events.Event, day: DayText) -> Given:
+        """What was handed in for a day, as its files have it."""
+        old = self.filed[event.date]
+        contents = {kind: self.folder.text(old, kind) for kind in MERGED}
+        first = self.folder.handed_in(old).first
+        return Given(day.source.rows[: day.first_do + first.count] if first else None, contents)
+
+    def says(self) -> str:
+        """What says when a day was filed, and with which records."""
+        return str(self.folder.journal.path)
+
+    def summary(self) -> str:
+        """The last line, with the counts."""
+        there = self.folder.journal
+        counts = f"events {len(there.events)}, days {len(there.filed())}, pairs read {self.pairs}"
+        return f"{self.folder.path}: {counts}: {counted(len(self.faults), 'difference', 'differences')}"
+
+
+def look_at_files(found: OlderFound) -> HandedIn | None:
+    """Looks at the journal and at each file. Answers what was handed in for the next day, if it can be read."""
+    folder = found.folder
+    for fault in journal.faults_of(folder.journal):
+        found.add(fault, mend=JOURNAL_BACK)
+        found.away = JOURNAL_FIRST
+    found.filed = {event.date: event for event in folder.journal.filed()}
+    for event in folder.journal.filed():
+        changed = [*folder.changed_files(event)]
+        found.add(*folder.changed_tables(event))
+        if changed:
+            found.changed.add(event.date)
+        found.add(*changed)
+        found.add(*folder.strange_files(event), mend=found.away)
+    with found.adding(PUT_BACK):
+        found.add(*folder.strange_days(), mend=found.away)
+    found.add(*folder.changed_labels())
+    with found.adding(NEXT_BACK):
+        there = folder.for_the_next_day()
+        found.add(*there.unsaid, mend=SAY_AGAIN)
+        found.add(*there.unapproved, mend=APPROVES_NOTHING)
+        return there
+    return None
+
+
+def text_of(found: OlderFound, event: events.Event, column: str) -> KeptText:
+    """A text of a day by the path of its file."""
+    old = found.filed[event.date]
+    path = found.folder.file(old, KEY_OF[column])
+    return KeptText(str(path), lambda: found.folder.text(old, KEY_OF[column]))
+
+
+def waits_path(folder: Folder) -> Path:
+    """The file of what waits behind the last day."""
+    return folder.next_folder / handed.WAITS
+
