@@ -124,13 +124,22 @@ class NewFolder:
         with writing(self.path / name):
             (self.beside / name).mkdir()
 
+    def make_all(self, name: str) -> None:
+        """Makes a folder inside, with those before it, as far as they lack."""
+        with writing(self.path / name):
+            (self.beside / name).mkdir(parents=True, exist_ok=True)
+
     def write(self, name: str, text: str) -> None:
+        """Writes a file of the folder."""
+        self.write_bytes(name, text.encode("utf-8", "surrogateescape"))
+
+    def write_bytes(self, name: str, content: bytes) -> None:
         """Writes a file of the folder."""
         # (there may be 100,000 of them: no stream is made for each)
         with writing(self.path / name):
             file = opening.create(f"{self.beside}/{name}")
             try:
-                write_all(file, text.encode("utf-8", "surrogateescape"))
+                write_all(file, content)
             finally:
                 os.close(file)
 

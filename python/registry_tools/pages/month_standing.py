@@ -6,13 +6,13 @@ from typing import Any, Callable, Iterator
 from registry_tools.calendars.deadlines import DueDates
 from registry_tools.errors import WordsFault
 from registry_tools.office.labels import Labels
-from registry_tools.office.past import PastDay
 from registry_tools.pages.compliance import bar
 from registry_tools.pages.html import Markup, Table, facts, heading, paragraph
 from registry_tools.pages.settled import count_of
 from registry_tools.questions.compliance import (
     COMPLIANT, MISSING, NO_EMISSIONS, VERDICTS, Standing, last_year_over, standings,
 )  # fmt: skip
+from registry_tools.store.past import PastDay
 from registry_tools.texts.in_words import grouped
 
 MISSED = Table(["Account", "Holder", "Surrendered of emissions", "Missing"], ("Missing",))

@@ -129,7 +129,8 @@ def audit(path: Path, asked: Audit) -> Found:
             for fault in events.faults_of(db, store.events):
                 found.add(fault)
                 found.has_events = False
-        look_at_heads(found, asked)
+        with found.adding():
+            look_at_heads(found, asked)
         look_at_texts(found, asked.begin)
         look_at_handed(found)
         with found.adding():
@@ -143,33 +144,20 @@ def audit(path: Path, asked: Audit) -> Found:
 
 def look_at_heads(found: Found, asked: Audit) -> None:
     """Whether the folder has grown from each head that was kept elsewhere."""
-    there, key = found.office.events, found.office.settings.key
+    store, key = found.office.store, found.office.settings.key
     faults: list[FileFault | None] = []
     if asked.since_date is not None and asked.since is None:
         raise WordsFault("--date tells the last day of --since HEAD, which is not there")
-    earlier = earlier_lines(found)
     if asked.since is not None:
-        faults.append(anchors.not_grown(there, anchors.head_of(asked.since), asked.since_date, earlier))
+        faults.append(anchors.not_grown(store, anchors.head_of(asked.since), asked.since_date))
     for line, anchor in anchors.read(asked.anchors) if asked.anchors is not None else ():
-        faults.append(anchors.not_grown(there, anchor.head, anchor.date, earlier))
+        faults.append(anchors.not_grown(store, anchor.head, anchor.date))
         wrong = anchors.wrong_signature(anchor, key) if key else ""
         if wrong:
             found.add(FileFault(asked.anchors or "", line, "SIGNATURE", wrong, f"one by {key}"))
     found.add(*faults, mend=OTHER_FOLDER)
     if faults:
         found.heads = f", grown from {faults.count(None)} of {counted(len(faults), 'head', 'heads')} kept"
-
-
-def earlier_lines(found: Found) -> list[str]:
-    """The lines of the journal of an older version, of which the file was made: heads of then are still heads of the
-    folder."""
-    lines: list[str] = []
-    for event in found.office.events.all:
-        if event.what == events.UPGRADED and event.text:
-            with found.adding():
-                text = found.office.store.texts.get(event.text).decode("utf-8", "surrogateescape")
-                lines += [row.rpartition(",")[2] for row in text.split("\n")]
-    return lines
 
 
 # Texts, and what was handed in.
