@@ -166,9 +166,9 @@ def look_at_heads(found: Found, asked: Audit) -> None:
 def look_at_texts(found: Found, begin: datetime.date) -> None:
     """Whether each text has its sum. Those of the days that are read later are looked at there."""
     later = {own for event in found.office.events.days if event.date >= begin for own in (event.text, event.report)}
+    progress.tell("looking at the texts")
     with found.adding():
-        for fault in progress.over(found.office.store.texts.faults(later), "looking at the texts", step=1):
-            found.add(fault)
+        found.add(*found.office.store.texts.faults(later))
 
 
 def look_at_handed(found: Found) -> None:
