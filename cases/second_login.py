@@ -1,24 +1,22 @@
 """Who does what in a folder of days: the login beside the name, people with rights, what waits for another login, and
-approvals that are forged, or of something that has changed since.
+approvals of something that has changed since.
 
-Most of it is tried by the right of a desk to say for whom it works. Other logins of the system are tried where this
-process may take them on."""
+It is tried by the right of a desk to say for whom it works. That nobody else gets in is tried with another login of the
+system, where this process may take one on."""
 import json
 import os
 import pwd
 import shutil
-import stat
 import subprocess
-from dataclasses import replace
+from collections.abc import Iterator
 from pathlib import Path
-from typing import Callable, Iterator
 from unittest import mock
 
-from damaged_office import unchanged
 from harness import TOP, LeftOut, Said, differs
-from offices import must_do, told
+from offices import FILE, chained_anew, changed, events_of, must_do, rows_of, told, unchanged
 
-from registry_tools.office import files, folder, handed, handed_journal, journal, people
+from registry_tools.cli.words import user_name
+from registry_tools.office import folder, handed, people
 
 WEEK, RULES = TOP / "examples" / "week", TOP / "tools" / "rules.py"
 MONDAY, TUESDAY, WEDNESDAY = (f"2025-09-{day}" for day in (22, 23, 24))
@@ -27,6 +25,7 @@ CHANGE = ["change", "100210", "--holder", "5503", *WHY, "--yes"]
 ACT, WORK_ROW = "do,2025-09-23,5101,5102,surrender,100210,general,1", "work,2025-10-06"
 BLOCK = "account,300126,trading,9017,open,no,no,0,0,0\nuser,4201,both\n"
 Told = tuple[str, object]
+LOGIN = people.system_login()
 # Whom the folders name, beside the login of this process, which may speak for them.
 PEOPLE = {
     "anna": "Anna Berg: all", "bert": "Bert Kohl: all", "cora": "Cora Lund: hand in", "dan": "Dan Moor: change",
@@ -71,8 +70,8 @@ def second_login_trials(work: Path) -> Iterator[Told]:
     """All trials of this file that need no other login of the system."""
     work.mkdir()
     for trials in (
-        settings_trials, login_trials, rights_trials, change_trials, close_trials, other_commands_trials, forged_trials,
-        not_asked_trials, undone_trials, several_trials, send_trials, at_once_trials,
+        settings_trials, login_trials, rights_trials, change_trials, close_trials, other_commands_trials,
+        not_any_more_trials, not_asked_trials, undone_trials, several_trials, send_trials, at_once_trials,
     ):  # fmt: skip
         yield from trials(work)
 
@@ -112,12 +111,11 @@ def login_trials(work: Path) -> Iterator[Told]:
         must_do(["hand-in", str(acts), *own], [*CHANGE, "--who", "Eve", *own], ["take-back", "1", *WHY, *own])
         must_do(["close", "--date", TUESDAY, *own], ["undo", TUESDAY, *WHY, *own], ["close", "--date", TUESDAY, *own])
         must_do(["release", TUESDAY, "--yes", *WHY, *own])
-    there = journal.read(office / "journal.csv")
-    yield "the login of each line", differs({event.login for event in there.events}, {login})
-    yield "the names that were given", differs([event.who for event in there.events[1:]], ["eve"] * 4)
-    path = office / "days" / TUESDAY / "handed-in.csv"
-    filed = handed_journal.read_journal(path)
-    yield "of what was handed in", differs([(part.who, part.login) for part in filed.parts], [("Eve", login)])
+    there = events_of(office, "what", "login", "who")
+    yield "the login of each event", differs({own for _, own, _ in there}, {login})
+    days = [who for what, _, who in there if what in ("filed", "undone", "released")]
+    yield "the names that were given", differs(days[1:], ["eve"] * 4)
+    yield "of what was handed in", differs(filed_of(office, TUESDAY), [("Eve", login, "")])
     yield "status tells it", told(0, [f"filed by eve, login {login} at "], "status", *own)
     yield "a row for programs", told(0, [f"login,{TUESDAY},,,eve,", f",{login}"], "status", "--csv", *own)
     speaks = [f"--for anna: {login} may not speak for others: office.ini gives it no right proxy"]
@@ -127,19 +125,16 @@ def login_trials(work: Path) -> Iterator[Told]:
     must_do(["change", "100210", "--holder", "5504", *WHY, "--yes", *own], ["close", "--date", WEDNESDAY, *own])
     must_do(["undo", WEDNESDAY, *WHY, *own])
     has = [f"from here on office.ini names people, or commands of four eyes: {WEDNESDAY}, filed by"]
-    yield "what a group may write", group_trial(work)
     yield "audit tells where people were named", told(0, has, "audit", *own)
 
 
-def group_trial(work: Path) -> object:
-    """Each file that a command makes is for the group, if the mask of the process lets it."""
-    before = os.umask(0o002)
-    try:
-        office, _ = settled(work, "group", named={})
-    finally:
-        os.umask(before)
-    modes = {path.relative_to(office): stat.S_IMODE(path.stat().st_mode) for path in office.rglob("*")}
-    return [f"{path}: {mode:o}" for path, mode in modes.items() if not mode & stat.S_IWGRP]
+def filed_of(office: Path, date: str) -> list[tuple[str, str, str]]:
+    """Who handed in what came into a settled day, by name and login, and who approved it."""
+    with folder.at(office) as there:
+        (event,) = [own for own in there.events.days if str(own.date) == date]
+        own = handed.for_a_day(there.store, event)
+        seconds = {approved.place: approved.login for approved in own.approved}
+        return [(part.who, part.login, seconds.get(part.start, "")) for part in own.parts]
 
 
 # Rights.
@@ -158,7 +153,7 @@ def rights_trials(work: Path) -> Iterator[Told]:
         "label": (["label", "account", "100210", "Kiln", *WHY], {"dan"}),
         "close": (["close", "--date", TUESDAY], {"eva"}), "undo": (["undo", MONDAY, *WHY], {"eva"}),
         "correct": (["correct", MONDAY, "--without", "61007", "--second", "--yes", *WHY], {"eva"}),
-        "mend": (["mend", MONDAY], {"eva"}), "release": (["release", MONDAY, "--yes", *WHY], {"finn"}),
+        "release": (["release", MONDAY, "--yes", *WHY], {"finn"}),
     }  # fmt: skip
     kept = work / "kept"
     shutil.copytree(office, kept)
@@ -243,10 +238,8 @@ def change_trials(work: Path) -> Iterator[Told]:
     yield "it stays for the next day", told(0, ["place 1, change by"], "approve", *own)
     kept_own = ["--office", str(kept)]
     must_do(["close", "--date", TUESDAY, *of("eva"), *kept_own])
-    yield "the day has who approved it", differs(
-        [line.split(",")[2:] for line in (kept / "days" / TUESDAY / "handed-in.csv").read_text().splitlines()[2:]],
-        [[folder.user_name(), "1", f"{people.system_login()}:bert"]],
-    )
+    by, second = (f"{people.system_login()}:{own}" for own in ("anna", "bert"))
+    yield "the day has who approved it", differs(filed_of(kept, TUESDAY), [(user_name(), by, second)])
     listed = json.loads(Said("changes", "--json", *kept_own).output)
     yield "its list has it, too", differs({own["approved"] for own in listed}, {f"{people.system_login()}:bert"})
     yield "audit", told(0, ["0 differences"], "audit", "--second", *kept_own)
@@ -285,7 +278,7 @@ def close_trials(work: Path) -> Iterator[Told]:
     yield "nobody asked", unchanged(office, 2, nobody, *approve, *of("bert"), *own)
     asked = ["close 2025-09-23 is asked for, and waits for Bert Kohl (bert) or Eva Nord (eva): ./day approve close"]
     yield "asked for", told(1, asked, *close, *of("anna"), *own)
-    yield "no day is filed", differs(sorted(path.name for path in (office / "days").iterdir()), [MONDAY])
+    yield "no day is filed", differs(events_of(office, "date", what="filed"), [MONDAY])
     yield "by the same login", unchanged(office, 2, ["another login approves it"], *approve, *of("anna"), *own)
     other = ["approve", "close", "--date", WEDNESDAY, *of("bert"), *own]
     yield "another day", unchanged(office, 2, ["nobody asked"], *other)
@@ -306,10 +299,10 @@ def close_trials(work: Path) -> Iterator[Told]:
     yield "changed once more", told(1, ["is asked for, and waits for"], *close, *of("anna"), *own)
     must_do([*approve, *of("eva"), *own])
     yield "closed by a third one", told(0, ["2025-09-23 is settled"], *close, *of("bert"), *own)
-    event = journal.read(office / "journal.csv").events[-1]
     login = people.system_login()
-    yield "its line", differs((event.login, event.approved), (f"{login}:bert", f"{login}:eva"))
-    yield "nothing is left", differs(handed.names_of_approvals(office / "next"), [])
+    line = events_of(office, "login", "approved", what="filed")[-1]
+    yield "its line", differs(line, (f"{login}:bert", f"{login}:eva"))
+    yield "nothing is left", differs(rows_of(office, "SELECT * FROM approvals"), [])
     yield "audit", told(0, ["0 differences"], "audit", "--second", *own)
 
 
@@ -331,7 +324,8 @@ def other_commands_trials(work: Path) -> Iterator[Told]:
             yield f"{command}: by the program", told(1, waits, *by_program, *WHY, *of("anna"), "--office", str(copy))
         shutil.rmtree(copy)
         yield f"{command}: as it was asked for", told(0, [f"{MONDAY} is "], *words, *WHY, *of("anna"), *own)
-        approved = {event.approved for event in journal.read(office / "journal.csv").events[1:]}
+        days = "what IN ('filed', 'undone', 'released') AND id > (SELECT min(id) FROM events WHERE what = 'filed')"
+        approved = {own for (own,) in rows_of(office, f"SELECT approved FROM events WHERE {days}")}
         yield f"{command}: its lines", differs(approved, {f"{people.system_login()}:bert"})
         yield f"{command}: audit", told(0, ["0 differences"], "audit", "--second", *own)
     for like in ("close", "undo"):
@@ -353,10 +347,9 @@ def beside_trials(work: Path) -> Iterator[Told]:
     for login in ("bert", "eva"):
         yield f"approved by {login}", told(0, ["approved: close"], "approve", *close[:3], *of(login), *own)
     yield "closed", told(0, [f"{TUESDAY} is settled"], *close)
-    filed = handed_journal.read_journal(office / "days" / TUESDAY / "handed-in.csv")
-    yield "what waits is not filed", differs(([part.name for part in filed.parts], filed.taken), (["acts.csv"], []))
-    login, event = people.system_login(), journal.read(office / "journal.csv").events[-1]
-    yield "all who approved it", differs({*event.approved.split(", ")}, {f"{login}:bert", f"{login}:eva"})
+    yield "what waits is not filed", differs([own for _, own, _ in filed_of(office, TUESDAY)], [f"{LOGIN}:anna"])
+    approved = events_of(office, "approved", what="filed")[-1]
+    yield "all who approved it", differs({*approved.split(", ")}, {f"{LOGIN}:bert", f"{LOGIN}:eva"})
     settings = office / "office.ini"
     settings.write_text(settings.read_text().replace("change, close", "change"))
     must_do(["close", "--date", WEDNESDAY, "--yes", *of("anna"), *own])
@@ -376,17 +369,16 @@ def by_itself_trials(work: Path) -> Iterator[Told]:
 
 
 def not_asked_trials(work: Path) -> Iterator[Told]:
-    """Where nothing waits any more, the day does not say that somebody approved it, whatever the journal of next/ says:
-    who may write that one writes any name."""
+    """Where nothing waits any more, the day says who approved a thing all the same; a later change of office.ini asks
+    nobody."""
     office, own = settled(work, "not-asked", "change")
     must_do([*CHANGE, *of("anna"), *own], ["approve", "1", *of("bert"), *own])
     must_do(["hand-in", str(file_of(work, "acts.csv", ACT)), *of("cora"), *own])
-    settings, there = office / "office.ini", office / "next" / "journal.csv"
+    settings = office / "office.ini"
     settings.write_text(settings.read_text().replace("commands = change", "commands = undo"))
-    there.write_text(f"{there.read_text()}approved,2025-09-23T08:00:00Z,Eve,2,eve\n")
     must_do(["close", "--date", TUESDAY, *of("eva"), *own])
-    filed = handed_journal.read_journal(office / "days" / TUESDAY / "handed-in.csv")
-    yield "nobody approved it", differs((filed.approved, [part.start for part in filed.parts]), ([], [1, 2]))
+    by = [(own, second) for _, own, second in filed_of(office, TUESDAY)]
+    yield "who did it", differs(by, [(f"{LOGIN}:anna", f"{LOGIN}:bert"), (f"{LOGIN}:cora", "")])
     yield "audit", told(0, ["0 differences"], "audit", "--second", *own)
 
 
@@ -438,110 +430,28 @@ def send_trials(work: Path) -> Iterator[Told]:
 
 
 def proved_as(office: Path) -> None:
-    """Has the line of the first day say that a proved engine settled it."""
-    there = journal.read(office / "journal.csv")
-    event = replace(there.events[0], engine="program 1 0123456789ab proved")
-    (office / "journal.csv").write_text(f"{journal.HEADING}\n{event.row()}\n")
-    path = office / "next" / "journal.csv"
-    path.write_text(f"base,{event.line}\n")
+    """Has the event of the first day say that a proved engine settled it."""
+    changed(office, "UPDATE events SET engine = 'program 1 0123456789ab proved' WHERE what = 'filed'")
+    chained_anew(office)
 
 
-# Forged approvals.
+# What was approved, and would not be any more.
 
 
-Forged = Callable[[Callable[[], object]], object]
-
-
-def approved_change(work: Path) -> tuple[Path, Path, Forged]:
-    """A folder with a change that was approved, where the approval lies in a copy of it, and what is wrong with what
-    commands say of that copy behind a change of the approval."""
-    base, own = settled(work, "forged", "change")
+def not_any_more_trials(work: Path) -> Iterator[Told]:
+    """An approval counts as long as those who gave it may."""
+    base, own = settled(work, "approved-before", "change")
     must_do([*CHANGE, *of("anna"), *own], ["approve", "1", *of("bert"), *own])
-    good = next(path for path in (base / "next").iterdir() if path.name.startswith("approved-"))
-    office = work / "broken"
-    own = ["--office", str(office)]
-    there = office / "next" / good.name
-
-    def forged(change: Callable[[], object]) -> object:
-        shutil.rmtree(office, ignore_errors=True)
+    yield "the one that is good", told(0, ["nothing waits"], "approve", *own)
+    for number, (name, was, becomes) in enumerate((
+        ("the desk may not speak for others any more", "The desk: proxy", "The desk: all"),
+        ("who may not any more", "Bert Kohl: all", "Bert Kohl: look"),
+    )):  # fmt: skip
+        office = work / f"not-any-more-{number}"
         shutil.copytree(base, office)
-        change()
-        path = next((path for path in (office / "next").iterdir() if path.name.startswith("approved-")), there)
-        for words, status in ((["status"], 0), (["audit"], 1)):
-            wrong = told(status, [path.name], *words, *own)
-            if wrong:
-                return wrong
-        return told(0, ["place 1, change by"], "approve", *own)
-
-    return base, there, forged
-
-
-def forged_trials(work: Path) -> Iterator[Told]:
-    """An approval that the login which it names has not given approves nothing, and is told."""
-    base, there, forged = approved_change(work)
-    row, login, office = (base / "next" / there.name).read_text(), people.system_login(), there.parents[1]
-    yield "the one that is good", told(0, ["nothing waits"], "approve", "--office", base)
-    yield "a login for which nobody spoke", forged(lambda: write_as(there, row, f"{login}:bert", "bert"))
-    yield "another login of the system", forged(lambda: write_as(there, row, f"{login}:bert", "daemon"))
-    yield "a desk that may not speak for others", forged(lambda: write_as(there, row, f"{login}:bert", "bin:bert"))
-    yield "another sum", forged(lambda: there.rename(there.with_name(f"approved-{'0' * 16}-{'0' * 16}.csv")))
-    yield "others may write it", forged(lambda: there.chmod(0o664))
-    yield "a link", forged(lambda: linked(there))
-    yield "no row", forged(lambda: there.write_text("approved\n"))
-    yield "two rows", forged(lambda: there.write_text(row * 2))
-    yield "nothing", forged(lambda: there.write_text(""))
-    yield "a folder", forged(lambda: made_a_folder(there))
-    yield from not_any_more_trials(base, office)
-    # (who writes what is asked for in the name of another one still needs a second login)
-    asked = work / "forged" / "next" / f"asked-close-{TUESDAY}.csv"
-    asked.write_text(f"asked,now,Eve,eve,close,{TUESDAY},,x,y\n")
-    yield "something that nobody asked for", told(0, ["nothing waits"], "approve", "--office", base)
-
-
-def not_any_more_trials(base: Path, office: Path) -> Iterator[Told]:
-    """An approval counts as long as those who gave it may, and what it is of is said to be of the same login."""
-    login, journal_of_next = people.system_login(), "next/journal.csv"
-    for name, file, was, becomes in (
-        ("the desk may not speak for others any more", "office.ini", "The desk: proxy", "The desk: all"),
-        ("who may not any more", "office.ini", "Bert Kohl: all", "Bert Kohl: look"),
-        ("handed in by another one, as is said now", journal_of_next, f"{login}:anna", f"{login}:dan"),
-    ):  # fmt: skip
-        shutil.rmtree(office)
-        shutil.copytree(base, office)
-        path = office / file
+        path = office / "office.ini"
         path.write_text(path.read_text().replace(was, becomes))
         yield name, told(0, ["place 1, change by"], "approve", "--office", office)
-
-
-def write_as(path: Path, row: str, old: str, new: str) -> None:
-    """Writes an approval in the name of another login: under the name of its file, and under that of the other one."""
-    path.unlink()
-    name = path.name.rpartition("-")[0]
-    mine = files.sum_of(new.encode())[:16]
-    path.with_name(f"{name}-{mine}.csv").write_text(row.replace(old, new))
-
-
-def made_a_folder(path: Path) -> None:
-    """Puts a folder in the place of a file."""
-    path.unlink()
-    path.mkdir()
-
-
-def linked(path: Path) -> None:
-    """Puts a link in the place of a file."""
-    aside = path.parent.parent.parent / "aside.csv"
-    path.rename(aside)
-    path.symlink_to(aside)
-
-
-def owner_trials(work: Path) -> Iterator[Told]:
-    """A file that is right but for its owner. Raises LeftOut where this process can't make one."""
-    if os.getuid() != 0:
-        raise LeftOut("only root gives a file to another login")
-    work.mkdir()
-    _, there, forged = approved_change(work)
-    other = pwd.getpwnam("nobody")
-    yield "a file of another login", forged(lambda: os.chown(there, other.pw_uid, other.pw_gid))
 
 
 # At once.
@@ -572,31 +482,40 @@ def at_once(*words: str) -> "subprocess.Popen[bytes]":
 
 
 def system_trials(work: Path) -> Iterator[Told]:
-    """Real logins: that of the process counts, and no variable. Raises LeftOut where it can't take on another one."""
+    """One login has a folder: another one gets nothing, and nobody works on a folder of another one, root neither. Raises
+    LeftOut where this process can't take on another login."""
     other = other_login()
     work.mkdir()
-    office, own = settled(work, "system", "change, close", {people.system_login(): "Root: all", other: "Other: all"})
-    open_to_all(office)
-    for path in (*work.parents, work):
-        if path.owner() == people.system_login() and not path.stat().st_mode & stat.S_IXOTH and path != Path("/"):
-            path.chmod(path.stat().st_mode | stat.S_IXOTH | stat.S_IROTH)
+    office, own = settled(work, "system", "change", {LOGIN: "Root: all", other: "Other: all"})
+    open_above(work)
     must_do([*CHANGE, *own])
-    names = {"LOGNAME": other, "USER": other}
-    with mock.patch.dict(os.environ, names):
-        yield "a variable", unchanged(office, 2, ["asked for it"], "approve", "1", "--who", other, *own)
-    answered = as_login(other, ["approve", "1", *own], {"USER": people.system_login()})
-    yield "another login", None if answered[0] == 0 and "approved: place 1" in answered[1] else answered
-    answered = as_login(other, ["close", "--date", TUESDAY, *own], {})
-    yield "asks for a close", None if answered[0] == 1 and "is asked for" in answered[1] else answered
-    open_to_all(office, but_approvals=True)
-    yield "the first one approves", told(0, ["approved: close"], "approve", "close", "--date", TUESDAY, *own)
-    answered = as_login(other, ["close", "--date", TUESDAY, *own], {})
-    yield "and it is closed", None if answered[0] == 0 and "is settled" in answered[1] else answered
-    event = journal.read(office / "journal.csv").events[-1]
-    yield "its line", differs((event.login, event.approved), (other, people.system_login()))
-    path = office / "days" / TUESDAY / "handed-in.csv"
-    yield "the line of the change", None if f",1,{other}\n" in path.read_text() else path
-    yield "audit", told(0, ["0 differences"], "audit", *own)
+    with mock.patch.dict(os.environ, {"LOGNAME": other, "USER": other}):
+        yield "a variable is no login", unchanged(office, 2, ["asked for it"], "approve", "1", "--who", other, *own)
+    modes = {path.name: oct(path.stat().st_mode & 0o777) for path in (office, office / FILE)}
+    yield "for nobody else", differs(modes, {office.name: "0o700", FILE: "0o600"})
+    for words in (["status"], ["approve", "1"], ["close", "--date", TUESDAY], ["find"], ["audit"]):
+        status, says = as_login(other, [*words, *own], {"USER": LOGIN})
+        yield f"{words[0]} by another login", None if status in (2, 3) and "Traceback" not in says else (status, says)
+    for path in (office, office / FILE):
+        mode = path.stat().st_mode & 0o777
+        path.chmod(mode | 0o070)
+        yield f"{path.name} that a group may write", unchanged(office, 3, [f"chmod go-w {path}"], "status", *own)
+        path.chmod(mode)
+    owner = pwd.getpwnam(other)
+    for path in (office, office / FILE):
+        os.chown(path, owner.pw_uid, owner.pw_gid)
+        has = [f"{path}: found a file or folder of another login"]
+        for words in (["status"], ["change", "100210", "--holder", "5509", *WHY, "--yes"], ["audit"]):
+            yield f"{words[0]}: {path.name} of another login", unchanged(office, 3, has, *words, *own)
+        os.chown(path, 0, 0)
+    yield "as it was", told(0, ["0 differences"], "audit", *own)
+
+
+def open_above(work: Path) -> None:
+    """Lets every login come as far as the folder in which trials work."""
+    for path in (*work.parents, work):
+        if path != Path("/") and path.owner() == LOGIN:
+            path.chmod(path.stat().st_mode | 0o055)
 
 
 def other_login() -> str:
@@ -615,11 +534,3 @@ def as_login(login: str, words: list[str], more: dict[str, str]) -> tuple[int, s
     command = ["setpriv", f"--reuid={own.pw_uid}", f"--regid={own.pw_gid}", "--clear-groups", str(TOP / "day"), *words]
     ran = subprocess.run(command, capture_output=True, text=True, env={**os.environ, **more}, check=False, cwd="/")
     return ran.returncode, ran.stdout + ran.stderr
-
-
-def open_to_all(office: Path, but_approvals: bool = False) -> None:
-    """Lets every login write a folder, as one group would."""
-    for path in (office, *office.rglob("*")):
-        # (what a login says in a file of its own, nobody else may write)
-        if not (but_approvals and path.name.startswith(("asked-", "approved-", "said-"))):
-            path.chmod(0o777 if path.is_dir() else 0o666)
