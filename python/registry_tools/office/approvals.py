@@ -125,7 +125,10 @@ def is_second(office: Office, approval: Event, commands: Collection[str], sum_as
     """Whether an approval is of this, by another login, which may give the commands. Of what nobody knows who did it,
     nobody is the second one."""
     is_other = bool(login) and people.person_of(approval.login) not in office.people.hands_of(login)
-    return is_other and approval.sum == sum_asked and all(office.people.may(approval.login, own) for own in commands)
+    by = people.owner_of(approval.login)
+    speaks = by == approval.login or office.people.may_speak(by)
+    may = all(office.people.may(approval.login, own) for own in commands)
+    return is_other and speaks and may and approval.sum == sum_asked
 
 
 def needs_second(office: Office, part: Part) -> bool:
