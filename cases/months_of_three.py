@@ -5,7 +5,6 @@ who approved it, and what each day and report is by paths. Now and then office.i
 For cases/run-office."""
 from __future__ import annotations
 
-import csv
 import datetime
 from collections.abc import Callable, Iterator
 from dataclasses import dataclass, field, replace
@@ -13,11 +12,13 @@ from pathlib import Path
 from typing import NamedTuple
 
 from harness import Said
-from interrupted import Interrupted, state_of
+from interrupted import Interrupted
 from months import Month
+from offices import content_of, events_of, text_of
 from second_login import with_lines
 
-from registry_tools.office import files, folder, people
+from registry_tools.cli.words import user_name
+from registry_tools.office import approvals, folder, handed, people
 from registry_tools.second import rules
 from registry_tools.texts.report import read_report
 
@@ -37,6 +38,8 @@ WAITS_AS = {"do": "hand-in", "work": "hand-in", "changes": "change", "edits": "c
 USUAL = ("change", "close", "release")
 # So often one of the commands of a day is another one than the next one needed; and so often somebody gives it who may.
 STRAY, FITTING = 0.2, 0.85
+# What is told of an event.
+TOLD = ("what", "coalesce(date, '0001-01-01')", "who", "login", "approved", "why")
 # Within so many commands a day comes to its end.
 MOST_COMMANDS = 400
 LOOKS = ("status", "try", "approve", "changes", "audit", "due")
@@ -98,13 +101,14 @@ class Filed:
     parts: list[Handed]
 
 
-def told_rows(path: Path) -> dict[str, list[list[str]]]:
-    """The rows of a journal of what was handed in, by tag, without times, files and sums."""
-    found: dict[str, list[list[str]]] = {"handed": [], "taken": [], "approved": []}
-    for tag, *fields in csv.reader(path.read_text().splitlines()):
-        if tag in found:
-            found[tag].append([*fields[1:6], *fields[8:]] if tag == "handed" else fields[1:])
-    return found
+def told_of(there: handed.HandedIn) -> dict[str, list[list[str]]]:
+    """What was handed in, without times and sums."""
+    parts = [
+        [part.who, part.kind, str(part.start), str(part.count), str(part.earliest or ""), part.name, part.login]
+        for part in there.parts
+    ]
+    taken = [[own.who, str(own.place), own.why, own.login] for own in there.taken]
+    return {"handed": parts, "taken": taken, "approved": [[own.who, str(own.place), own.login] for own in there.approved]}
 
 
 class MonthOfThree(Month):
@@ -179,12 +183,11 @@ class MonthOfThree(Month):
             raise Fault(f"wanted {wanted}: {wrong}")
         if wanted == (2,) and self.stands() != begun:
             raise Fault(f"{words} {more}: refused, and changes something")
-        return name or folder.user_name()
+        return name or user_name()
 
     def stands(self) -> object:
         """All that the folder says, with times and names."""
-        paths = self.office / "journal.csv", self.office / "next" / "journal.csv"
-        return state_of(self.office), [path.read_bytes() for path in paths]
+        return content_of(self.office)
 
     def lets_through(self, command: str, login: str, key: Key) -> bool:
         """Whether a command is done now: if it has to, because another login approved exactly this."""
@@ -222,12 +225,10 @@ class MonthOfThree(Month):
         return command in self.four_eyes and self.second_of(part) is None and bool(part.left())
 
     def second_of(self, part: Handed) -> str | None:
-        """Who approved a file that has to be, and still may: the first one by the name of the approval."""
+        """Who approved a file that has to be, and still may: the first one."""
         command = WAITS_AS.get(part.kind, "")
-        may = [own for own in part.approved or [] if self.may(own.rpartition(":")[2], command)]
-        if command not in self.four_eyes or not may:
-            return None
-        return min(may, key=lambda own: files.sum_of(own.encode()))
+        may = [own for own in part.approved if self.may(own.rpartition(":")[2], command)]
+        return may[0] if may and command in self.four_eyes else None
 
     def is_left(self, part: Handed, date: datetime.date) -> bool:
         return self.waits(part) or (part.earliest is not None and part.earliest > date)
@@ -254,19 +255,18 @@ class MonthOfThree(Month):
 
     def must_stand(self) -> None:
         """Ends the month if the folder does not say of what was done what it has to."""
-        office = folder.read_office(self.office)
-        there, wanted = office.handed_in(), self.rows_of(self.parts)
-        found = told_rows(self.office / "next" / "journal.csv")
-        found["approved"] = [[own.who, str(own.place), own.login] for own in there.approved]
-        waiting = [part.start for part in self.parts if self.waits(part)]
+        with folder.at(self.office) as office:
+            there, wanted = approvals.handed_in_of(office), self.rows_of(self.parts)
+        found, waiting = told_of(there), [part.start for part in self.parts if self.waits(part)]
         if found != wanted or [part.start for part in there.waiting] != waiting:
-            raise Fault(f"next/ is {found}, {there.waiting}, wanted {wanted}, {waiting}")
+            raise Fault(f"for the next day is {found}, {there.waiting}, wanted {wanted}, {waiting}")
         events = [
-            [own.event, own.date, own.who, own.login, {*own.approved.split(", ")}, own.why]
-            for own in office.journal.events
+            [what, datetime.date.fromisoformat(date), who, login, {*approved.split(", ")}, why]
+            for what, date, who, login, approved, why in events_of(self.office, *TOLD)
+            if what in ("filed", "undone", "released")
         ]
         if events != self.events:
-            raise Fault(f"the journal has {events[-2:]}, wanted {self.events[-2:]}")
+            raise Fault(f"the folder has {events[-2:]}, wanted {self.events[-2:]}")
 
     def file_of(self, kind: str, items: list[list[str]]) -> Handed:
         """A new file, which nobody has handed in yet."""
@@ -433,17 +433,18 @@ class MonthOfThree(Month):
             return
         parts = [part for part in self.parts if not self.is_left(part, date)]
         left = [part for part in self.parts if self.is_left(part, date)]
-        filed = told_rows(self.office / "days" / str(date) / "handed-in.csv")
+        with folder.at(self.office) as office:
+            filed = told_of(handed.for_a_day(office.store, office.events.days[-1]))
         if filed != self.rows_of(parts):
-            raise Fault(f"handed-in.csv of {date} is {filed}, wanted {self.rows_of(parts)}")
+            raise Fault(f"{date} was made of {filed}, wanted {self.rows_of(parts)}")
         place = len(self.filed)
         text, report = (self.work / f"{place}.{name}" for name in ("day", "report"))
         text.write_bytes(made[0])
         report.write_text(rules.answers(made[0])["settle"])
         self.pairs[place:] = [(text, report)]
         wrong = self.compare(date, text, report)
-        if wrong or (place and (self.office / "days" / str(date) / "waiting.csv").read_bytes() != made[1]):
-            raise Fault(wrong or f"waiting.csv of {date} is another one")
+        if wrong or (place and text_of(self.office, str(date), "waiting") != made[1]):
+            raise Fault(wrong or f"what waited before {date} is another one")
         self.filed.append(Filed(date, *made, parts))
         self.begin_next([], left)
 
@@ -541,7 +542,7 @@ class MonthOfThree(Month):
             raise Fault(str(said))
         self.name_people()
         acts = [[row] for row in rows if row.startswith("do,")]
-        self.parts = [Handed(folder.user_name(), "first", 1, first.name, self.system, acts)]
+        self.parts = [Handed(user_name(), "first", 1, first.name, self.system, acts)]
 
     def trial(self) -> str | None:
         """Lives the month; what is wrong, if something is."""
