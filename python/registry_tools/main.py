@@ -5,6 +5,7 @@ import gc
 import importlib
 import re
 import signal
+import sqlite3
 import sys
 from pathlib import Path
 from typing import Protocol, cast
@@ -201,6 +202,9 @@ def main(arguments: list[str]) -> int:
         status = run(name, rest)
         sys.stdout.flush()
         return status
+    except sqlite3.Error as error:
+        print(f"./day {name}: {error}: another command may write the file just now, or it was changed", file=sys.stderr)
+        return FILE
     except OSError as error:
         return cannot_go_on(f"./day {name}", error)
     except KeyboardInterrupt:

@@ -45,7 +45,7 @@ def run(said: argparse.Namespace) -> int:
         parts = approve_places(office, words.by(said, office.people), tuple(said.what))
     for part in parts:
         print(f"approved: {part.places}, by {part.by}: {part.name}")
-        print("\n".join(f"  {row}" for row in part.rows))
+        print("\n".join([*(f"  {row}" for row in part.rows), *part.becomes]))
     return 0
 
 

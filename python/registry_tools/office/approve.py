@@ -25,6 +25,7 @@ class ApprovedPart:
     by: str
     name: str
     rows: list[str]
+    becomes: list[str]
 
 
 @dataclass(frozen=True)
@@ -67,7 +68,7 @@ def approve_places(office: Office, by: By, places: tuple[str, ...]) -> list[Appr
             sum_asked = approvals.sum_of_part(handed_in, part)
             office.add(APPROVED, of=part.event.id, sum=sum_asked, name=where)
             by_whom = approvals.who_did(office, part.who, part.login)
-            done.append(ApprovedPart(where, by_whom, part.name, rows_of(handed_in, part) + becomes))
+            done.append(ApprovedPart(where, by_whom, part.name, rows_of(handed_in, part), becomes))
     return done
 
 

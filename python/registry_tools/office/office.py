@@ -1,5 +1,6 @@
 """An open folder of days: its settings, its file, and who works with it."""
 import contextlib
+import re
 from collections.abc import Iterator
 from dataclasses import dataclass
 from pathlib import Path
@@ -10,14 +11,15 @@ from registry_tools.office import people
 from registry_tools.office.people import People
 from registry_tools.office.settings import Settings
 from registry_tools.store.events import (
-    APPROVED, ASKED, FILED, HANDED, LABELLED, RELEASED, TAKEN, UNDONE, Event, Events,
+    APPROVED, ASKED, HANDED, OF_DAYS, TAKEN, Event, Events,
 )  # fmt: skip
 from registry_tools.store.file import Store
 
 # What somebody is told who looked at the folder before somebody else changed it.
 CAME_LATE = "somebody changed the folder since it was looked at, and nothing was done"
-OF_DAYS = (FILED, UNDONE, RELEASED, LABELLED)
 FIRST = "first"
+# The line of an event, as `--seen` says it.
+STATE = re.compile("[0-9a-f]{64}")
 
 
 @dataclass(frozen=True)
@@ -82,10 +84,12 @@ class Office:
 
     def done_since(self, state: str) -> Iterator[str]:
         """What was done behind a state of the folder that somebody has seen, in words."""
+        if not STATE.fullmatch(state):
+            raise WordsFault(f"--seen {shown(state)} is no state of a folder, and nothing was done: look once more")
         lines = [event.line for event in self.events.all]
         if state not in lines:
-            raise WordsFault(f"--seen {shown(state)} is no state of this folder, and nothing was done: look once more")
-        for event in self.events.all[lines.index(state) + 1 :]:
+            yield "it was a state of another folder, or of another history of this one"
+        for event in self.events.all[lines.index(state) + 1 :] if state in lines else ():
             if event.of is None or event.what != HANDED:
                 yield from told_of(event)
 
