@@ -15,7 +15,9 @@ from harness import TOP, Said
 
 FIRST = TOP / "examples" / "first-transfer.csv"
 FILE = "registry.sqlite"
-KNOWN = {"office.ini", FILE}
+# (what a killed command left of a change that it had not begun stays until the next change)
+JOURNAL = f"{FILE}-journal"
+KNOWN = {"office.ini", FILE, JOURNAL}
 # Without when they were given.
 GIVEN_AT = re.compile(rb"[0-9-]{10}T[0-9:]{8}Z")
 # What an event has of its own time, and what has the sum of it.
