@@ -126,7 +126,8 @@ def approve_command(office: Office, by: By, command: str, date: datetime.date) -
         asked = there[0]
         must_be_other(office, asked.commands, asked.who, asked.login)
         must_be_same(office, asked)
-        office.add(APPROVED, of=asked.event.id, sum=asked.sum, name=str(asked))
+        if office.login not in approvals.approvers(office, asked):
+            office.add(APPROVED, of=asked.event.id, sum=asked.sum, name=str(asked))
         return asked, approvals.who_did(office, asked.who, asked.login)
 
 
