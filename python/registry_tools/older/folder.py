@@ -10,7 +10,7 @@ import datetime
 import fcntl
 import os
 from collections.abc import Iterator
-from dataclasses import dataclass
+from dataclasses import dataclass, field
 from pathlib import Path
 
 from registry_tools import opening
@@ -30,6 +30,7 @@ SETTINGS, JOURNAL, DAYS, NEXT, LABELS, TABLES, LOCK = (
 # What an interrupted command of version 1.1 leaves, and its next one puts right.
 LEFT = ("prepared", ".building", ".done", ".journal.csv.new")
 PAPERS = {"statements", "pages"}
+MOST_KEPT = 1
 PUT_BACK = "put it back as it was filed"
 LABEL_BY_HAND = "./day label --by-hand --why WORDS"
 
@@ -41,6 +42,8 @@ class Folder:
     path: Path
     settings: Settings
     journal: Journal
+    # What was read, by the lines of the events and the keys of the files.
+    kept: dict[str, dict[str, bytes]] = field(default_factory=dict)
 
     @property
     def next_folder(self) -> Path:
@@ -56,8 +59,13 @@ class Folder:
         return self.day_folder(event.date) / FILES[key]
 
     def text(self, event: Event, key: str) -> bytes:
-        """A text of a filed day, unpacked."""
-        return bytes_of(str(self.file(event, key)))
+        """A text of a filed day, unpacked. Those of the last two days that were asked for are kept."""
+        for line in [*self.kept][: -MOST_KEPT] if event.line not in self.kept else ():
+            del self.kept[line]
+        there = self.kept.setdefault(event.line, {})
+        if key not in there:
+            there[key] = bytes_of(str(self.file(event, key)))
+        return there[key]
 
     def handed_in(self, event: Event) -> HandedIn:
         """What was handed in for a settled day."""

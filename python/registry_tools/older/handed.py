@@ -6,8 +6,8 @@
   taken,AT,WHO,PLACE,WHY,LOGIN      the item at this place was taken back
   approved,AT,WHO,PLACE,LOGIN       of a settled day: who approved the items from this place on
 
-In next/ a LOGIN counts as far as next/said-SUM.csv, a file of that login, says it too; asked-*.csv has what somebody
-asked for, and approved-*.csv what somebody approves, if the system says that it is a file of the login that it names.
+In next/ asked-*.csv has what somebody asked for, and approved-*.csv what somebody approves, if the system says that it
+is a file of the login that it names. If there are files said-*.csv, a LOGIN counts as far as that of its login says it.
 """
 import csv
 import datetime
@@ -279,7 +279,10 @@ def name_said(login: str) -> str:
 
 
 def believe(handed: HandedIn, path: Path) -> None:
-    """Forgets each login that no file of its own says, and notes these."""
+    """Forgets each login that no file of its own says, and notes these. (The last commits before the file was there had
+    logins say it.)"""
+    if not any(SAID.fullmatch(own.name) for own in listed(handed.folder)):
+        return
     there = rows_said(handed)
     for part in handed.parts:
         part.login = believed(handed, path, part.row(), part.login, there)

@@ -1,0 +1,338 @@
+"""Makes the file of a folder of version 1.1: its texts, its events one by one, and the tables of questions. The old
+files are only read, and stay."""
+import contextlib
+import datetime
+import os
+import sqlite3
+import zlib
+from collections.abc import Iterator
+from dataclasses import dataclass, field, replace
+from pathlib import Path
+
+from registry_tools import opening, steps
+from registry_tools.errors import FileFault, of_file, shown
+from registry_tools.office import approvals, handed as todays, people
+from registry_tools.office.labels import labels_of
+from registry_tools.office.office import Office
+from registry_tools.office.waits import waits_text
+from registry_tools.older import faults, handed, journal
+from registry_tools.older.faults import OlderFound
+from registry_tools.older.files import bytes_in
+from registry_tools.older.folder import TABLES, Folder, alone, opened
+from registry_tools.older.handed import CHANGES, FIRST, KINDS, HandedIn, Part
+from registry_tools.output import name_beside, remove_left
+from registry_tools.progress import progress
+from registry_tools.questions.audit import Filed, compare_texts, look_at_day
+from registry_tools.store import daybook, events, file
+from registry_tools.store.events import (
+    APPROVED, ASKED, FILED, HANDED, LABELLED, NO_DATE, RELEASED, SOURCE, TAKEN, UNDONE, UPGRADED, Event,
+)  # fmt: skip
+from registry_tools.store.file import Store
+from registry_tools.store.past import PastDay
+from registry_tools.texts.rows import bytes_of, rows_of_text, sum_of, text_of_rows
+
+# How gzip begins what it packs without a name and a time, and how much stands behind it: the sum and the size.
+GZIP_HEAD, GZIP_TAIL = 10, 8
+ZLIB_HEAD = b"\x78\x9c"
+# What the journal and the index of version 1.1 are called, and which layout the index has.
+INDEX, INDEX_LAYOUT = "index.sqlite", 1
+OLD_FILES = "the files of version 1.1 stay as they are, and no command reads them any more"
+
+
+@dataclass(frozen=True)
+class Upgraded:
+    """What was made: how many events and days, and the heads of before and of now. Or what is wrong with the folder:
+    then nothing was made."""
+
+    events: int = 0
+    days: int = 0
+    old_head: str = ""
+    head: str = ""
+    faults: list[str] = field(default_factory=list)
+
+
+def upgrade(path: Path, login: str, who: str) -> Upgraded:
+    """Makes the file of a folder of version 1.1, whole or not at all. Raises FileFault if it has one already, belongs
+    to another login, or can't be read; what the audit of version 1.1 finds wrong is answered."""
+    place = path / file.NAME
+    opening.guard(path)
+    file.must_be_own(path, os.stat(path))
+    if os.path.lexists(place):
+        raise FileFault(place, 0, "", "a file that is there already", "no such file: the folder is upgraded, or a new one")
+    with alone(path):
+        folder = opened(path)
+        beside = path / name_beside(file.NAME)
+        remove_left(path)
+        try:
+            with file.making(beside) as store:
+                making = Making(folder, store, login, who)
+                making.make()
+                if making.found.faults:
+                    raise Faulty
+            steps.hold()
+            os.replace(beside, place)
+        except Faulty:
+            return Upgraded(faults=[*map(str, making.found.faults), making.found.summary()])
+        finally:
+            for suffix in ("", "-journal"):
+                with contextlib.suppress(OSError):
+                    os.unlink(f"{beside}{suffix}")
+        there, old = making.store.events, folder.journal.last_line[: events.HEAD_DIGITS]
+        return Upgraded(len(there.of_days()), len(there.days), old, there.head)
+
+
+class Faulty(Exception):
+    """The folder has faults: nothing is made."""
+
+
+@dataclass
+class Making:
+    """The file that is made of a folder, and what was found on the way."""
+
+    folder: Folder
+    store: Store
+    login: str
+    who: str
+
+    def __post_init__(self) -> None:
+        office = Office(self.folder.path, self.folder.settings, self.store)
+        self.found = OlderFound(office, lambda event, column: faults.text_of(self.found, event, column), folder=self.folder)
+        # The events that were made, by the lines of the journal; and what is handed in for the next day, by its place.
+        self.made: dict[str, Event] = {}
+        self.before: Filed | None = None
+
+    def make(self) -> None:
+        """Looks at the folder, and makes all."""
+        there = faults.look_at_files(self.found)
+        old = self.folder.journal
+        text = self.store.texts.put(old.text.encode("utf-8", "surrogateescape"))
+        self.add(Event(UPGRADED, login=self.login, who=self.who, count=len(old.events), text=text))
+        names = self.names()
+        for event in progress.over(old.events, "upgrading the days", len(old.events), step=1):
+            self.add_event(event, names.get(event.line, b""))
+        if names.get("", b""):
+            self.add(Event(LABELLED, login=self.login, who=self.who, text=self.store.texts.put(names[""])))
+        if there:
+            self.add_handed(there, self.folder.next_folder, self.folder.next_folder)
+            self.add_asked(there)
+        self.compare_with_index()
+
+    def add(self, event: Event) -> Event:
+        """Adds an event."""
+        return self.store.add(event)
+
+    # What the journal has.
+
+    def add_event(self, old: journal.Event, names: bytes) -> None:
+        """Adds the event of a line of the journal. Of a day that was taken back, version 1.1 kept no texts."""
+        said = {"at": old.at, "login": old.login, "who": old.who, "why": old.why, "people": old.people}
+        own = Event(date=old.date, first=old.first, next=old.next, approved=old.approved, what=old.event, **said)  # type: ignore[arg-type]
+        if old.event == journal.FILED:
+            own = self.filed(old, own) if self.found.filed.get(old.date) is old else self.add(with_engine(own, old))
+        elif old.event == journal.LABELLED:
+            own = self.add(Event(LABELLED, date=old.date, text=self.store.texts.put(names), **said))  # type: ignore[arg-type]
+        else:
+            days = self.store.events.days
+            of = next((day for day in reversed(days) if day.date == old.date), None)
+            own = self.add(with_day(own, of))
+        self.made[old.line] = own
+
+    def filed(self, old: journal.Event, own: Event) -> Event:
+        """Adds what was handed in for a day, and the event that files it, with its texts; and looks whether the day is
+        what it has to be. One reading of each text serves all."""
+        place, before = self.folder.day_folder(old.date), self.before
+        self.before = None
+        if not place.is_dir():
+            # (it was told with the files)
+            return self.add(with_engine(own, old))
+        mend = self.found.mending(old.date)
+        texts: dict[str, str] = {}
+        with self.found.adding(mend):
+            texts = self.texts_of(old)
+        with self.found.adding(mend):
+            self.before = look_at_day(self.found, own, before, by_program=False, by_second=False)
+        if self.before:
+            with self.found.adding(mend):
+                texts["waits"] = self.waits(old, self.before)
+        with self.found.adding(mend):
+            self.add_handed(self.folder.handed_in(old), place / TABLES, place, old)
+        event = self.add(with_engine(own, old, **texts))
+        if self.before and not self.found.faults:
+            self.add_day(event, self.before, before)
+        return event
+
+    def waits(self, old: journal.Event, read: Filed) -> str:
+        """The sum of what waits behind a day; of the last one the folder has it already."""
+        event, day, report = read
+        text = waits_text(day, report, self.found.text_of(event, "waiting"))
+        if old is self.folder.journal.filed()[-1]:
+            path = faults.waits_path(self.folder)
+            compare_texts(self.found, path, bytes_in(path), text, f"the day {old.date}", faults.WAITS_BACK)
+        return self.store.texts.put(text)
+
+    def texts_of(self, old: journal.Event) -> dict[str, str]:
+        """The sums of the texts of a day, which are kept as they are packed."""
+        sums = {}
+        for column, key in faults.KEY_OF.items():
+            content, path = self.folder.text(old, key), self.folder.file(old, key)
+            sums[column] = self.put(content, bytes_in(path) if path.suffix == ".gz" else b"")
+        return sums
+
+    def put(self, content: bytes, packed: bytes) -> str:
+        """Keeps a text that gzip packed: what is between its head and its tail is what zlib packs, too."""
+        if not is_plain(packed, content):
+            return self.store.texts.put(content)
+        again = ZLIB_HEAD + packed[GZIP_HEAD:-GZIP_TAIL] + zlib.adler32(content).to_bytes(4, "big")
+        own = sum_of(content)
+        statement = "INSERT INTO texts VALUES (?, ?, ?) ON CONFLICT DO NOTHING"
+        self.store.db.execute(statement, (own, len(content), again))
+        return own
+
+    def add_day(self, event: Event, read: Filed, before: Filed | None) -> None:
+        """Puts a day into the tables of questions."""
+        _, day, report = read
+        past_day = PastDay(day, report, *((before[2], before[1].heading) if before else (None, [])))
+        daybook.add_day(self.store.db, past_day, (event.text, event.report))
+
+    # What was handed in.
+
+    def add_handed(self, there: HandedIn, tables: Path, place: Path, old: journal.Event | None = None) -> None:
+        """Adds what was handed in for a day, which `old` filed, or for the next one: its files and its tables lie in
+        these folders. Of what was taken back before a day was filed, version 1.1 kept no rows."""
+        made: dict[int, Event] = {}
+        rows = {kind: self.items(kind, place, old) for kind in KINDS if old is not None and kind != FIRST}
+        for part in there.parts:
+            text = self.text_of_part(there, part, place, rows, old)
+            said = {"at": part.at, "login": part.login, "who": part.who}
+            own = self.add(Event(
+                HANDED, kind=part.kind, name=part.name, start=part.start, count=part.count, date=part.earliest or NO_DATE,
+                text=self.store.texts.put(text), **said,  # type: ignore[arg-type]
+            ))  # fmt: skip
+            made |= dict.fromkeys(range(part.start, part.start + part.count), own)
+            for source in part.sources:
+                content = self.store.texts.put(bytes_in(tables / source.file))
+                kind = source.file.partition("-")[2]
+                self.add(Event(SOURCE, of=own.id, kind=kind, name=source.name, text=content, **said))  # type: ignore[arg-type]
+        for taken in there.taken:
+            of = made[taken.place].id if taken.place in made else None
+            self.add(Event(TAKEN, taken.at, taken.login, taken.who, taken.why, of=of, start=taken.place))
+        for by in there.approved:
+            if by.place in made:
+                where = todays.places(by.place, by.place + made[by.place].count)
+                self.add(Event(APPROVED, by.at, by.login, by.who, of=made[by.place].id, name=where))
+        if old is None:
+            self.add_approvals(there, made)
+
+    def items(self, kind: str, place: Path, old: journal.Event | None) -> Iterator[list[str]]:
+        """The things of a kind that a settled day has, one after another."""
+        assert old is not None
+        return handed.items_of(kind, place / journal.FILES[kind], self.folder.text(old, kind))
+
+    def text_of_part(
+        self, there: HandedIn, part: Part, place: Path, rows: dict[str, Iterator[list[str]]], old: journal.Event | None
+    ) -> bytes:
+        """What was handed in together, as far as it is there."""
+        if old is None:
+            return bytes_in(place / part.file)
+        if part.kind == FIRST:
+            # (the first text as it was before others handed in more)
+            source = rows_of_text("", self.folder.text(old, "day").decode("utf-8", "surrogateescape"))
+            first = next(at for at, row in enumerate(source.rows) if row == "end" or row.startswith("do,"))
+            return text_of_rows([*source.rows[: first + part.count], "end"])
+        left = [next(rows[part.kind], None) for _ in there.left_of(part)]
+        if None in left:
+            path = place / journal.FILES[part.kind]
+            raise FileFault(path, 0, "", "fewer rows than were handed in", "all of them: it was changed")
+        return text_of_rows([row for item in left if item for row in item])
+
+    # Four eyes.
+
+    def add_approvals(self, there: HandedIn, made: dict[int, Event]) -> None:
+        """Adds who approved what is handed in for the next day, as far as it is what was approved."""
+        today = todays.for_the_next_day(self.store)
+        by_start = {part.start: part for part in today.parts}
+        for part in there.parts:
+            asked, own = handed.sum_of_part(there, part), by_start[part.start]
+            for by in there.approvals:
+                if by.sum == asked:
+                    sum_of_today = approvals.sum_of_part(today, own)
+                    self.add(Event(APPROVED, by.at, by.login, by.who, of=own.event.id, name=by.what, sum=sum_of_today))
+
+    def add_asked(self, there: HandedIn) -> None:
+        """Adds what was asked for, and who approved it."""
+        for asked in there.asked:
+            result = self.made[asked.result].line if asked.result in self.made else asked.result
+            own = self.add(Event(
+                ASKED, asked.at, asked.login, asked.who, date=datetime.date.fromisoformat(asked.date),
+                kind=asked.command, name=asked.words, sum=result, beside=asked.beside,
+            ))  # fmt: skip
+            today = approvals.Asked(own, self.store.events.state)
+            for by in there.approvals:
+                if by.sum == asked.sum:
+                    self.add(Event(APPROVED, by.at, by.login, by.who, of=own.id, name=by.what, sum=today.sum))
+
+    # Names.
+
+    def names(self) -> dict[str, bytes]:
+        """What each line of the journal added to the names, by its sum. What nobody knows of is added by the last one
+        that changed them; and by none, if no line did."""
+        content = self.folder.labels()
+        with self.found.adding():
+            labels_of(rows_of_text(self.folder.path / "labels.csv", content.decode("utf-8-sig", "surrogateescape")))
+        ends = {sum_of(content[:end]): end for end in ends_of_lines(content)}
+        found, begin, last = dict[str, bytes](), 0, ""
+        for event in self.folder.journal.events:
+            if event.event == journal.LABELLED:
+                end, last = ends.get(event.labels, begin), event.line
+                found[last] = content[begin:end] if end > begin else b""
+                begin = max(begin, end)
+        found[last] = found.get(last, b"") + content[begin:]
+        return found
+
+    # The index, if there is one.
+
+    def compare_with_index(self) -> None:
+        """Whether the tables answer as the index of version 1.1 did, if it was up to the journal."""
+        path = self.folder.path / INDEX
+        if self.found.faults or not path.is_file() or path.is_symlink():
+            return
+        with contextlib.suppress(sqlite3.Error), contextlib.closing(sqlite3.connect(f"{path.as_uri()}?mode=ro", uri=True)) as old:
+            lines = old.execute("SELECT date, line FROM filed ORDER BY date").fetchall()
+            is_up = lines == [(str(event.date), event.line) for event in self.folder.journal.filed()]
+            layout = old.execute("PRAGMA user_version").fetchone()[0]
+            for table in (*daybook.BY_DATE, *daybook.BY_RECORD) if is_up and layout == INDEX_LAYOUT else ():
+                self.found.add(*self.unlike(old, path, table))
+
+    def unlike(self, old: sqlite3.Connection, path: Path, table: str) -> Iterator[FileFault]:
+        """In what the index has other rows of a table."""
+        there, made = ({*db.execute(f"SELECT * FROM {table}")} for db in (old, self.store.db))
+        strange, lacking = sorted(there - made, key=repr), sorted(made - there, key=repr)
+        if strange or lacking:
+            found, row = (shown(", ".join(map(str, own[0]))) if own else "no such row" for own in (strange, lacking))
+            mend = f"{row}, as the files of the days have it: take {path} away, and it is made anew"
+            yield FileFault(path, 0, table, found, mend)
+
+
+def is_plain(packed: bytes, content: bytes) -> bool:
+    """Whether gzip packed these bytes once, and without a name: as the commands of version 1.1 do."""
+    is_one = packed[:4] == b"\x1f\x8b\x08\0" and len(packed) > GZIP_HEAD + GZIP_TAIL
+    return is_one and packed[-4:] == (len(content) & 0xFFFFFFFF).to_bytes(4, "little")
+
+
+def ends_of_lines(content: bytes) -> Iterator[int]:
+    """The places behind the lines of a text, and that of its end."""
+    place = content.find(b"\n")
+    while place >= 0:
+        yield place + 1
+        place = content.find(b"\n", place + 1)
+    yield len(content)
+
+
+def with_engine(own: Event, old: journal.Event, **texts: str) -> Event:
+    """An event that files a day, with what settled it and its texts."""
+    return replace(own, engine=old.engine, **texts)  # type: ignore[arg-type]
+
+
+def with_day(own: Event, day: Event | None) -> Event:
+    """An event that speaks of a day which was filed."""
+    return replace(own, of=day.id if day else None)
