@@ -5,13 +5,14 @@ did: a folder with a fault is told so in the same words, and nothing is made.
 The files of version 1.1 stay as they are, and no command reads them any more. The file begins with the old journal: so a
 head or an anchor of before is still one of the folder. Of days that were taken back version 1.1 kept no texts.
 
-exit status: 0 if the folder is upgraded, 1 if it has faults.
+exit status: 0 if the folder is upgraded, 3 if it has faults.
 """
 import argparse
+import sys
 from pathlib import Path
 
 from registry_tools.cli.words import user_name
-from registry_tools.errors import FOUND
+from registry_tools.errors import FILE
 from registry_tools.office import people
 from registry_tools.older.upgrade import upgrade
 
@@ -29,7 +30,7 @@ def run(said: argparse.Namespace) -> int:
     """Runs the command, and answers the exit status."""
     made = upgrade(Path(said.folder), people.system_login(), said.who)
     if made.faults:
-        print("\n".join([*made.faults, f"{said.folder} is not upgraded: nothing was made"]))
-        return FOUND
+        print("\n".join([*made.faults, f"{said.folder} is not upgraded: nothing was made"]), file=sys.stderr)
+        return FILE
     print(f"{said.folder}: events {made.events}, days {made.days}, head {made.head}; before, {made.old_head}")
     return 0

@@ -195,7 +195,9 @@ class HandedIn:
         else:
             starts = [place for place, row in enumerate(source.rows) if begins_item(part.kind, row)]
         ends = [*starts[1:], None]
-        for place, (start, end) in enumerate(zip(starts, ends), part.start):
+        # (of settled days, version 1.1 kept no rows of what was taken back before)
+        own_places = range(part.start, part.end) if len(starts) >= part.count else self.left_of(part)
+        for place, start, end in zip(own_places, starts, ends):
             behind = (end or len(source.rows)) if part.kind == CHANGES else start + 1
             own = [index for index in range(start, behind) if source.rows[index] != "end"]
             yield Item(place, part, [source.rows[index] for index in own], [source.line(index) for index in own])

@@ -148,16 +148,26 @@ def look_at_heads(found: Found, asked: Audit) -> None:
     faults: list[FileFault | None] = []
     if asked.since_date is not None and asked.since is None:
         raise WordsFault("--date tells the last day of --since HEAD, which is not there")
+    earlier = [*earlier_lines(store)]
     if asked.since is not None:
-        faults.append(anchors.not_grown(store, anchors.head_of(asked.since), asked.since_date))
+        faults.append(anchors.not_grown(store.events, anchors.head_of(asked.since), asked.since_date, earlier))
     for line, anchor in anchors.read(asked.anchors) if asked.anchors is not None else ():
-        faults.append(anchors.not_grown(store, anchor.head, anchor.date))
+        faults.append(anchors.not_grown(store.events, anchor.head, anchor.date, earlier))
         wrong = anchors.wrong_signature(anchor, key) if key else ""
         if wrong:
             found.add(FileFault(asked.anchors or "", line, "SIGNATURE", wrong, f"one by {key}"))
     found.add(*faults, mend=OTHER_FOLDER)
     if faults:
         found.heads = f", grown from {faults.count(None)} of {counted(len(faults), 'head', 'heads')} kept"
+
+
+def earlier_lines(store: Store) -> Iterator[str]:
+    """The lines of the journal of an older version, of which the file was made: heads of then are still heads of the
+    folder."""
+    for event in store.events.all:
+        if event.what == events.UPGRADED and event.text:
+            text = store.texts.get(event.text).decode("utf-8", "surrogateescape")
+            yield from (row.rpartition(",")[2] for row in text.split("\n"))
 
 
 # Texts, and what was handed in.
