@@ -213,8 +213,12 @@ def opened(folder: Path) -> Store:
     path = look_at(folder)
     with telling(path):
         db = connected(path)
-        must_be_one(db, path)
-        return Store(path, db, Texts(db, path), events.read(db, path))
+        try:
+            must_be_one(db, path)
+            return Store(path, db, Texts(db, path), events.read(db, path))
+        except BaseException:
+            db.close()
+            raise
 
 
 def must_be_one(db: sqlite3.Connection, path: Path) -> None:
