@@ -12,7 +12,7 @@ from types import TracebackType
 
 from registry_tools import opening, steps
 from registry_tools.errors import FileFault, UnwrittenFault, of_file
-from registry_tools.office.layout import must_not_be_of_folder
+from registry_tools.layout import must_not_be_of_folder
 
 # How the name of a file or folder ends that is being written: `.NAME.PROCESS` stands before it.
 UNFINISHED = ".day-unfinished"

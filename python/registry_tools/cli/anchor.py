@@ -13,7 +13,7 @@ from pathlib import Path
 
 from registry_tools.cli import words
 from registry_tools.office import anchors, folder
-from registry_tools.office.layout import must_not_be_of_folder
+from registry_tools.layout import must_not_be_of_folder
 from registry_tools.output import write_answer
 
 EXAMPLE = "./day anchor --to out/anchors.csv --office out/office"

@@ -11,9 +11,10 @@ from typing import TypeVar
 from registry_tools import showing, tables
 from registry_tools.calendars.dates import date_of
 from registry_tools.errors import WordsFault, shown
-from registry_tools.office import folder, labels, naming
+from registry_tools.office import folder
+from registry_tools.texts import naming
 from registry_tools.office.office import Office
-from registry_tools.office.labels import ACCOUNT, Labels
+from registry_tools.texts.labels import ACCOUNT, Labels
 from registry_tools.questions import days
 from registry_tools.questions.days import Days
 from registry_tools.showing import Cell
@@ -49,7 +50,7 @@ def opened(said: argparse.Namespace) -> Iterator[Asked]:
         return
     office = folder.opened(said.office)
     with days.at_one_moment(office.store) as own:
-        yield Asked(own, office, labels.of_office(office))
+        yield Asked(own, office, office.names())
 
 
 def must_be_one_place(said: argparse.Namespace) -> None:

@@ -20,10 +20,11 @@ from registry_tools import streams, tables
 from registry_tools.cli import words
 from registry_tools.cli.asked import number_of
 from registry_tools.errors import FOUND, WordsFault
-from registry_tools.office import edits, folder, handed, labels
+from registry_tools.office import folder, handed
+from registry_tools.pairs import edits
 from registry_tools.office.change import LAG, LAGS, Change, change, on_pair
-from registry_tools.office.edits import ADD, DROP, OPEN, PUT, Edit
-from registry_tools.office.labels import Labels
+from registry_tools.pairs.edits import ADD, DROP, OPEN, PUT, Edit
+from registry_tools.texts.labels import Labels
 from registry_tools.options import add_to
 from registry_tools.output import write_answer
 from registry_tools.texts.follows import read_pair
@@ -166,7 +167,7 @@ def run(said: argparse.Namespace) -> int:
     why = words.one_line("--why", said.why)
     words.one_line("--who", said.who)
     with folder.opened(said.office) as office:
-        asked = Change(tuple(edits_of(said, labels.of_office(office))), why, said.yes)
+        asked = Change(tuple(edits_of(said, office.names())), why, said.yes)
         came = change(office, words.by(said, office.people), asked)
     print(streams.by_name("\n".join([*came.rows, *came.notes])))
     if came.part is None:

@@ -29,7 +29,7 @@ from registry_tools import showing
 from registry_tools.errors import FOUND
 from registry_tools.cli import named
 from registry_tools.options import add_pair
-from registry_tools.questions.compliance import COLUMNS, as_table, cells, counts, is_open, last_year_over, standings
+from registry_tools.pairs.compliance import COLUMNS, as_table, cells, counts, is_open, last_year_over, standings
 from registry_tools.texts.follows import read_pair
 
 EXAMPLE = "./day compliance examples/week/monday.csv examples/week/monday-report.csv --year 2024"

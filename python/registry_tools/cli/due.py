@@ -20,7 +20,7 @@ import argparse
 
 from registry_tools import showing, tables
 from registry_tools.cli import asked, words
-from registry_tools.office import folder, labels
+from registry_tools.office import folder
 from registry_tools.output import NewFile
 from registry_tools.questions.due import as_calendar, due_until, folded, last_shown
 
@@ -46,5 +46,5 @@ def run(said: argparse.Namespace) -> int:
         print(f"{said.ics}: entries {len(found)}")
         return 0
     rows = [own.cells() for own in (found if showing.is_for_programs(said) else folded(found))]
-    showing.show(said, COLUMNS, asked.rows_shown(said, COLUMNS, rows, labels.of_office(office)))
+    showing.show(said, COLUMNS, asked.rows_shown(said, COLUMNS, rows, office.names()))
     return 0

@@ -14,7 +14,7 @@ from registry_tools import showing, tables
 from registry_tools.cli import asked
 from registry_tools.cli.asked import Asked
 from registry_tools.errors import FOUND, WordsFault
-from registry_tools.office.labels import USER
+from registry_tools.texts.labels import USER
 from registry_tools.questions.find import Find, accounts_meant, cells_of, find
 from registry_tools.second import faults
 from registry_tools.showing import Cell

@@ -12,7 +12,7 @@ from registry_tools import streams
 from registry_tools.cli import words
 from registry_tools.office import folder
 from registry_tools.office.init import Init, change_first, init
-from registry_tools.office.layout import SETTINGS
+from registry_tools.layout import SETTINGS
 from registry_tools.office.people import People
 
 EXAMPLE = "./day init out/office examples/week/monday.csv"

@@ -19,9 +19,10 @@ from registry_tools import showing, tables
 from registry_tools.cli import words
 from registry_tools.errors import WordsFault
 from registry_tools.notes import first_of
-from registry_tools.office import folder, labels
+from registry_tools.office import folder
+from registry_tools.texts import labels
 from registry_tools.office.label import MOST_TOLD, Named, label, names_in, one_name
-from registry_tools.office.labels import Label
+from registry_tools.texts.labels import Label
 
 EXAMPLE = './day label holder 5501 "Kalkwerk Nord" --why "a letter" --office out/office'
 LISTED = tables.COLUMNS["label"]
@@ -47,7 +48,7 @@ def run(said: argparse.Namespace) -> int:
     must_fit(said)
     if not said.named and said.file is None:
         with folder.opened(said.office) as office:
-            there = labels.of_office(office).named.values()
+            there = office.names().named.values()
         rows = sorted(there, key=lambda own: (own.kind, int(own.number)))
         showing.show(said, LISTED, [cells_of(said, own) for own in rows])
         return 0

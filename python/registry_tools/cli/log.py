@@ -26,7 +26,7 @@ import argparse
 from registry_tools import showing
 from registry_tools.options import is_day_named
 from registry_tools.output import write_answer
-from registry_tools.questions.log import COLUMNS, Log, log
+from registry_tools.pairs.log import COLUMNS, Log, log
 from registry_tools.texts.day_text import read_day
 from registry_tools.texts.report import read_report
 

@@ -1,8 +1,8 @@
 """The word that names a file of names."""
 import argparse
 
-from registry_tools.office import labels
-from registry_tools.office.labels import Labels
+from registry_tools.texts import labels
+from registry_tools.texts.labels import Labels
 
 
 def add_words(parser: argparse.ArgumentParser) -> None:

@@ -10,7 +10,7 @@ from typing import Any
 
 from registry_tools.calendars.dates import DATE, date_of, is_date
 from registry_tools.errors import FileFault, WordsFault
-from registry_tools.office import folder, handed, labels
+from registry_tools.office import folder, handed
 from registry_tools.office.office import Office
 from registry_tools.options import A_DATE, Given, Words
 from registry_tools.store.events import Event
@@ -102,7 +102,7 @@ def look_up(name: str, said: argparse.Namespace) -> None:
     if TAKES[name] == PAIR:
         said.report = pair.report
     if name in TAKE_NAMES:
-        said.names = labels.of_office(office)
+        said.names = office.names()
     if name == "page":
         look_up_more(office, named, said)
 

@@ -6,8 +6,8 @@ import io
 import shutil
 from pathlib import Path
 
-from registry_tools.office import handed, labels
-from registry_tools.office.layout import PAPERS
+from registry_tools.office import handed
+from registry_tools.layout import PAPERS
 from registry_tools.office.office import Office
 from registry_tools.questions import statements
 from registry_tools.store.events import Event
@@ -56,7 +56,7 @@ def make_pages(office: Office, filed: Event, place: Path) -> None:
     told = told_by(handed.for_a_day(store, filed).items(handed.CHANGES, handed.EDITS))
     own = Page(
         pair.day, pair.report, before=(before.day, before.report) if before else None,
-        pending=kept(store, filed, "waiting"), told=told, names=labels.of_office(office),
+        pending=kept(store, filed, "waiting"), told=told,
     )  # fmt: skip
     make_of(place, own)
 

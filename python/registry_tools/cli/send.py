@@ -19,7 +19,8 @@ import sys
 from registry_tools.cli import asked, named, words
 from registry_tools.errors import WordsFault
 from registry_tools.notes import LOOK
-from registry_tools.office import folder, labels, release
+from registry_tools.office import folder, release
+from registry_tools.texts import labels
 from registry_tools.office.approvals import AskedFor
 from registry_tools.office.office import Office
 from registry_tools.pages.send import Send, Sent, send, span_of
@@ -79,7 +80,7 @@ def of_folder(said: argparse.Namespace) -> Sent:
     day = office.store.events.day_of(wanted.end)
     assert day is not None  # (it is one of the dates)
     wanted = Send(wanted.begin, wanted.end, wanted.holders, kept(office.store, day, "waiting"))
-    names = labels.of_office(office) if said.labels is None else labels.read(said.labels)
+    names = office.names() if said.labels is None else labels.read(said.labels)
     by = words.by(said, office.people)
     is_released = office.store.events.is_released(day)
     if not is_released and said.release:

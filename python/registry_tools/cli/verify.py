@@ -12,7 +12,7 @@ from registry_tools import showing, tables
 from registry_tools.engine import settler_of
 from registry_tools.errors import FOUND
 from registry_tools.options import add_engine, add_pair
-from registry_tools.questions.verify import verify
+from registry_tools.pairs.verify import verify
 
 EXAMPLE = "./day verify examples/week/monday.csv examples/week/monday-report.csv"
 COLUMNS = tables.COLUMNS["verify"]

@@ -10,7 +10,7 @@ from typing import Iterable, Iterator, Mapping, Sequence
 from registry_tools.desk.reading import Reading
 from registry_tools.desk.words import LAGS, label
 from registry_tools.errors import WordsFault
-from registry_tools.office.labels import ACCOUNT, Labels
+from registry_tools.texts.labels import ACCOUNT, Labels
 from registry_tools.pages.beside import called
 from registry_tools.second import faults, rules
 from registry_tools.sheets import columns as sheets

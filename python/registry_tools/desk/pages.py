@@ -16,7 +16,7 @@ from registry_tools.desk.shown import asked, number_asked, row_of_taken, show_pa
 from registry_tools.errors import FileFault, WordsFault
 from registry_tools.notes import LOOK
 from registry_tools.office import approvals, awaited, handed, release as releasing, taken, undo as undoing
-from registry_tools.office.settling import BY_RUN, settler_in_words
+from registry_tools.pairs.settling import BY_RUN, settler_in_words
 from registry_tools.office.trial import Looked, whys
 from registry_tools.office.waits import waits_of
 from registry_tools.pages import summary

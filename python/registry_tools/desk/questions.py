@@ -21,14 +21,14 @@ from registry_tools.errors import WordsFault
 from registry_tools.notes import BY_HAND
 from registry_tools.office import awaited, taken
 from registry_tools.office import listing
-from registry_tools.office.labels import ACCOUNT, KINDS
+from registry_tools.texts.labels import ACCOUNT, KINDS
 from registry_tools.pages import compliance as standing
 from registry_tools.pages.month_standing import until_in_words
 from registry_tools.pages.beside import item_in_words, words_of_row
 from registry_tools.pages.html import Markup, link
 from registry_tools.pages.rulebook import document_parts
 from registry_tools.pages.settled import REFUSED, WAITS, Settled, joined_words, outcome_in_words, record_in_words
-from registry_tools.questions import compliance as answers
+from registry_tools.pairs import compliance as answers
 from registry_tools.questions import find as finding
 from registry_tools.questions.history import in_folder as rows_of
 from registry_tools.second import faults, rules

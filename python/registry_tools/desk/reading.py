@@ -14,12 +14,13 @@ from typing import Any, Callable, TypeVar
 
 from registry_tools.calendars.dates import date_of
 from registry_tools.errors import FileFault, WordsFault
-from registry_tools.office import close, composing, files, folder, handed, labels, lock, past, prepared, trial
+from registry_tools.office import close, composing, files, folder, handed, lock, past, prepared, trial
+from registry_tools.texts import labels
 from registry_tools.office.composing import NextDay
 from registry_tools.office.folder import Office
 from registry_tools.office.journal import Event
-from registry_tools.office.labels import Labels
-from registry_tools.office.layout import JOURNAL, LABELS, SETTINGS
+from registry_tools.texts.labels import Labels
+from registry_tools.layout import JOURNAL, LABELS, SETTINGS
 from registry_tools.office.waits import waiting_behind
 from registry_tools.pages import indexed, month, send
 from registry_tools.pages.account import own_parts

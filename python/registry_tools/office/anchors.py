@@ -16,7 +16,7 @@ import os
 import re
 import subprocess
 import tempfile
-from collections.abc import Collection, Iterator
+from collections.abc import Iterator
 from dataclasses import dataclass, replace
 from pathlib import Path
 
@@ -24,7 +24,8 @@ from registry_tools.errors import FileFault, WordsFault, shown
 from registry_tools.office import composing
 from registry_tools.office.office import Office
 from registry_tools.output import NewFile
-from registry_tools.store.events import Event, Events, now
+from registry_tools.store.events import UPGRADED, Event, Events, now
+from registry_tools.store.file import Store
 from registry_tools.texts.rows import bytes_of, rows_of
 
 TAG, FORM = "anchor", "anchor,AT,DATE,HEAD,ENGINE,SIGNATURE"
@@ -78,12 +79,18 @@ def head_of(word: str) -> str:
     return word
 
 
-def not_grown(
-    there: Events, head: str, date: datetime.date | None, earlier: Collection[str] = ()
-) -> FileFault | None:
-    """What shows that a folder has not grown from a head, whose last day was `date`; nothing, if it has. `earlier` are
-    the lines of the journal of an older version of which its file was made."""
-    if any(line.startswith(head) for line in (*earlier, *(event.line for event in there.all))):
+def lines_of(store: Store) -> Iterator[str]:
+    """The lines of all events; before them those of the journal of an older version, if the file was made of one."""
+    for event in store.events.all:
+        if event.what == UPGRADED:
+            yield from (line.rpartition(",")[2] for line in store.texts.lines(event.text))
+        yield event.line
+
+
+def not_grown(store: Store, head: str, date: datetime.date | None) -> FileFault | None:
+    """What shows that a folder has not grown from a head, whose last day was `date`; nothing, if it has."""
+    there = store.events
+    if any(line.startswith(head) for line in lines_of(store)):
         return None
     last = there.last()
     found = f"no line with the head {head[:FEWEST_DIGITS]}"

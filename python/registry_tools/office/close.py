@@ -8,16 +8,17 @@ from dataclasses import dataclass
 from registry_tools.calendars.due_days import NOT_DUE
 from registry_tools.errors import WordsFault, raise_first
 from registry_tools.notes import LOOK, worth_telling
-from registry_tools.office import approvals, composing, handed, settling, trial
+from registry_tools.office import approvals, composing, handed, trial
+from registry_tools.pairs import settling
 from registry_tools.office.approvals import AskedFor
 from registry_tools.office.composing import NextDay
 from registry_tools.office.handed import HandedIn, Part
 from registry_tools.office.office import By, Office
 from registry_tools.office.program import named_program
-from registry_tools.office.settling import Engine
+from registry_tools.pairs.settling import Engine
 from registry_tools.office.waits import waits_text
-from registry_tools.questions.compliance import compliant_share, last_year_over
-from registry_tools.questions.verify import expected_rows, first_difference, settled_again
+from registry_tools.pairs.compliance import compliant_share, last_year_over
+from registry_tools.pairs.verify import expected_rows, first_difference, settled_again
 from registry_tools.second import rules
 from registry_tools.store import daybook
 from registry_tools.store.events import FILED, Event

@@ -10,10 +10,11 @@ from dataclasses import dataclass, field
 from registry_tools.calendars.due_days import NOT_DUE, head_after
 from registry_tools.errors import FileFault, WordsFault
 from registry_tools.notes import LOOK
-from registry_tools.office import approvals, close, composing, differing, hand_in, handed, incoming, people, trial
+from registry_tools.office import approvals, close, composing, hand_in, handed, incoming, people, trial
+from registry_tools.pairs import differing
 from registry_tools.office.approvals import AskedFor
 from registry_tools.office.close import Settled
-from registry_tools.office.edits import place_of_row
+from registry_tools.pairs.edits import place_of_row
 from registry_tools.office.hand_in import Here
 from registry_tools.office.handed import CHANGES, DO, FIRST, HandedIn, Item, Part
 from registry_tools.office.incoming import Given, Incoming
@@ -303,7 +304,7 @@ class Correction:
         days = []
         for before, after in zip(self.before, settled):
             notes = [note for note in after.composed.notes if note.startswith(LOOK)]
-            days.append((before.date, [*differing.all_differences(before, after), *notes]))
+            days.append((before.date, [*differing.all_differences((before.day, before.report), (after.day, after.report)), *notes]))
         return Shown(days, [*dict.fromkeys(self.notes)])
 
     # What it would make of the numbers of records.

@@ -10,7 +10,7 @@ from pathlib import Path
 from registry_tools import opening
 from registry_tools.errors import WordsFault
 from registry_tools.office import settings
-from registry_tools.office.layout import SETTINGS
+from registry_tools.layout import SETTINGS
 from registry_tools.office.office import Office
 from registry_tools.store import file
 

@@ -5,7 +5,7 @@ from typing import NamedTuple
 
 from registry_tools.calendars.due_days import NOT_DUE
 from registry_tools.errors import FileFault, WordsFault
-from registry_tools.office import approvals, composing, earlier, handed, incoming, labels, people, trial
+from registry_tools.office import approvals, composing, earlier, handed, incoming, people, trial
 from registry_tools.office.composing import NextDay
 from registry_tools.office.handed import CHANGES, DO, HandedIn, Part
 from registry_tools.office.incoming import Forms, Given, Incoming
@@ -61,7 +61,7 @@ def added(office: Office, asked: HandIn) -> Added:
     parts = [add(office, here, incoming.read(each, asked.forms)) for each in asked.files]
     date = composing.settlement_date(office, handed_in)
     next_day = composing.compose(office, handed_in.until(date), date)
-    looked = trial.look(next_day, next_day.day(), labels.of_office(office))
+    looked = trial.look(next_day, next_day.day(), office.names())
     return Added(parts, next_day, looked, here.told, approvals.told_of_new(office, parts))
 
 

@@ -7,7 +7,7 @@ from pathlib import Path
 from registry_tools.errors import FileFault, WordsFault
 from registry_tools.office import approvals, handed, people
 from registry_tools.office.handed import FIRST, HandedIn
-from registry_tools.office.layout import SETTINGS
+from registry_tools.layout import SETTINGS
 from registry_tools.office.office import By, Office
 from registry_tools.office.settings import Settings
 from registry_tools.output import NewFolder

@@ -4,9 +4,10 @@ from dataclasses import dataclass
 
 from registry_tools.errors import FileFault, WordsFault, shown
 from registry_tools.notes import LOOK
-from registry_tools.office import approvals, composing, labels
+from registry_tools.office import approvals, composing
+from registry_tools.texts import labels
 from registry_tools.office.incoming import Given, TableFault, text_handed_in
-from registry_tools.office.labels import ACCOUNT, COLUMNS, HOLDER, KINDS, USER, Label, Labels
+from registry_tools.texts.labels import ACCOUNT, COLUMNS, HOLDER, KINDS, USER, Label, Labels
 from registry_tools.office.office import By, Office
 from registry_tools.sheets import importing, mapping as mappings, sheets
 from registry_tools.sheets.mapping import Mapping
@@ -32,7 +33,7 @@ class Named:
 def label(office: Office, by: By, asked: list[Label], why: str) -> Named:
     """Keeps the names that are new behind those that are there. Raises WordsFault if there is none."""
     with office.changing("label", by):
-        before, at = labels.of_office(office), now()
+        before, at = office.names(), now()
         new = [own._replace(at=at, who=office.who, why=why) for own in new_of(asked, before)]
         rows = "".join(f"{own.row()}\n" for own in new).encode("utf-8", "surrogateescape")
         # (ends the command if the names could not be read again)

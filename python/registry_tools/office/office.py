@@ -11,9 +11,12 @@ from registry_tools.office import people
 from registry_tools.office.people import People
 from registry_tools.office.settings import Settings
 from registry_tools.store.events import (
-    APPROVED, ASKED, HANDED, OF_DAYS, TAKEN, Event, Events,
+    APPROVED, ASKED, HANDED, LABELLED, OF_DAYS, TAKEN, Event, Events,
 )  # fmt: skip
 from registry_tools.store.file import Store
+from registry_tools.texts import labels
+from registry_tools.texts.labels import Labels
+from registry_tools.texts.rows import rows_of_text
 
 # What somebody is told who looked at the folder before somebody else changed it.
 CAME_LATE = "somebody changed the folder since it was looked at, and nothing was done"
@@ -62,6 +65,15 @@ class Office:
     def last(self) -> Event | None:
         """The last day that is filed."""
         return self.events.last()
+
+    def names(self) -> Labels:
+        """The names of users, holders and accounts: what commands have added, one after another."""
+        text = self.text_of_names().decode("utf-8-sig", "surrogateescape")
+        return labels.labels_of(rows_of_text(self.store.path, text))
+
+    def text_of_names(self) -> bytes:
+        """All rows by which names were given or taken away."""
+        return b"".join(self.store.texts.get(own.text) for own in self.events.all if own.what == LABELLED)
 
     def add(self, what: str, **said: Any) -> Event:
         """Adds an event, in a change, by the login that makes it."""

@@ -19,7 +19,7 @@ from dataclasses import dataclass, field
 from pathlib import Path
 
 from registry_tools.errors import FileFault, must_be_known, RightsFault, shown, WordsFault
-from registry_tools.office.layout import SETTINGS
+from registry_tools.layout import SETTINGS
 from registry_tools.store.texts import sum_of
 
 SECTION, FOUR_EYES, COMMANDS = "people", "four eyes", "commands"

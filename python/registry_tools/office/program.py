@@ -15,7 +15,7 @@ from pathlib import Path
 from registry_tools.errors import FileFault
 from registry_tools.office import people
 from registry_tools.office.office import Office
-from registry_tools.office.layout import SETTINGS
+from registry_tools.layout import SETTINGS
 
 VARIABLE = "REGISTRY_PROGRAMS"
 ROOT = 0

@@ -4,7 +4,8 @@ from collections.abc import Iterator
 from dataclasses import dataclass
 
 from registry_tools.errors import WordsFault
-from registry_tools.office import approvals, settling
+from registry_tools.office import approvals
+from registry_tools.pairs import settling
 from registry_tools.office.approvals import AskedFor
 from registry_tools.office.office import By, Office
 from registry_tools.store.events import RELEASED, Event

@@ -8,9 +8,9 @@ from registry_tools.calendars.due_days import NOT_DUE
 from registry_tools.engine import NotSettled, find_library
 from registry_tools.errors import FileFault
 from registry_tools.notes import LOOK
-from registry_tools.office import approvals, composing, labels
+from registry_tools.office import approvals, composing
 from registry_tools.office.composing import NextDay
-from registry_tools.office.labels import Labels
+from registry_tools.texts.labels import Labels
 from registry_tools.office.office import Office
 from registry_tools.second import rules
 from registry_tools.texts import checks, in_words
@@ -74,7 +74,7 @@ def try_next(office: Office, date: datetime.date | None = None) -> Tried:
     on = date or composing.settlement_date(office, handed_in)
     with composing.telling_the_way_out():
         next_day = composing.compose(office, handed_in.until(on), on)
-    looked = look(next_day, next_day.day(), labels.of_office(office))
+    looked = look(next_day, next_day.day(), office.names())
     mark_and_keep(office, looked)
     return Tried(next_day, looked, of_library(next_day, looked))
 

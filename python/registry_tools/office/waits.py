@@ -3,7 +3,7 @@ import datetime
 
 from registry_tools.calendars.due_days import due_day_after, head_after
 from registry_tools.notes import Notes
-from registry_tools.office import next as next_day
+from registry_tools.pairs import next as next_day
 from registry_tools.office.office import Office
 from registry_tools.store import past
 from registry_tools.texts import pending

@@ -1,13 +1,13 @@
 """The pages of accounts: a statement for each holder, with nothing on it that belongs to others."""
 from typing import Iterator, Sequence
 
-from registry_tools.office.labels import ACCOUNT
+from registry_tools.texts.labels import ACCOUNT
 from registry_tools.pages.compliance import amount
 from registry_tools.pages.html import Cells, Markup, Table, facts, heading, paragraph
 from registry_tools.pages.plan import figure
 from registry_tools.pages.settled import Settled, long_date
 from registry_tools.pages.statement import KINDS, ROOT, Balances, DayTold, Statement
-from registry_tools.questions import compliance
+from registry_tools.pairs import compliance
 from registry_tools.second import rules
 from registry_tools.texts.in_words import grouped
 

@@ -5,7 +5,7 @@ from typing import Collection
 
 from registry_tools import tables
 from registry_tools.office import handed
-from registry_tools.office import edits
+from registry_tools.pairs import edits
 from registry_tools.office.handed import Item
 from registry_tools.texts import in_words
 

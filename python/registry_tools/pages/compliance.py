@@ -3,13 +3,13 @@ from collections import Counter
 from typing import Iterator, Sequence
 
 from registry_tools.errors import WordsFault
-from registry_tools.office.labels import ACCOUNT
+from registry_tools.texts.labels import ACCOUNT
 from registry_tools.pages import index
 from registry_tools.pages.html import Cells, Markup, Table, link, paragraph, table, tag, words_in_cell
 from registry_tools.pages.rulebook import RULES
 from registry_tools.pages.settled import OUTCOMES, LongTable, Settled, count_of, kind_of, rows_of_parts
-from registry_tools.questions import compliance
-from registry_tools.questions.compliance import Standing
+from registry_tools.pairs import compliance
+from registry_tools.pairs.compliance import Standing
 from registry_tools.texts.in_words import grouped
 
 COLUMNS = [

@@ -5,7 +5,7 @@ import re
 from collections.abc import Iterator, Sequence
 
 from registry_tools.calendars.due_days import NOT_DUE
-from registry_tools.office.labels import ACCOUNT
+from registry_tools.texts.labels import ACCOUNT
 from registry_tools.pages.account import entry_parts, facts_of, refused_parts, standing_parts, waiting_parts
 from registry_tools.pages.html import HEAD, PARTS, Cells, Markup, Table, facts, heading, joined, style_of, tag
 from registry_tools.pages.rulebook import Rulebook

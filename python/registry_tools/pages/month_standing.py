@@ -5,11 +5,11 @@ from typing import Any, Callable, Iterator
 
 from registry_tools.calendars.deadlines import DueDates
 from registry_tools.errors import WordsFault
-from registry_tools.office.labels import Labels
+from registry_tools.texts.labels import Labels
 from registry_tools.pages.compliance import bar
 from registry_tools.pages.html import Markup, Table, facts, heading, paragraph
 from registry_tools.pages.settled import count_of
-from registry_tools.questions.compliance import (
+from registry_tools.pairs.compliance import (
     COMPLIANT, MISSING, NO_EMISSIONS, VERDICTS, Standing, last_year_over, standings,
 )  # fmt: skip
 from registry_tools.store.past import PastDay

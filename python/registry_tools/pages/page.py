@@ -10,7 +10,7 @@ from dataclasses import dataclass, field
 from pathlib import Path
 
 from registry_tools.errors import FileFault, WordsFault
-from registry_tools.office.labels import Labels
+from registry_tools.texts.labels import Labels
 from registry_tools.output import NewFolder
 from registry_tools.pages.account import account_page
 from registry_tools.pages.compliance import account_list_pages, compliance_pages

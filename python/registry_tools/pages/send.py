@@ -5,7 +5,7 @@ from collections.abc import Callable
 from dataclasses import dataclass
 
 from registry_tools.errors import WordsFault
-from registry_tools.office.labels import Labels
+from registry_tools.texts.labels import Labels
 from registry_tools.output import NewFolder
 from registry_tools.pages.html import Frame
 from registry_tools.pages.letter import LetterWords, letter

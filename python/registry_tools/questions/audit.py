@@ -11,8 +11,9 @@ from typing import NamedTuple
 
 from registry_tools.errors import FileFault, UnwrittenFault, WordsFault, of_file, shown
 from registry_tools.notes import counted
-from registry_tools.office import anchors, approvals, composing, handed, labels, settings, settling
-from registry_tools.office.layout import SETTINGS
+from registry_tools.office import anchors, approvals, composing, handed, settings
+from registry_tools.pairs import settling
+from registry_tools.layout import SETTINGS
 from registry_tools.office.office import Office
 from registry_tools.office.program import named_program
 from registry_tools.office.waits import waits_text
@@ -134,7 +135,7 @@ def audit(path: Path, asked: Audit) -> Found:
         look_at_texts(found, asked.begin)
         look_at_handed(found)
         with found.adding():
-            labels.of_office(found.office)
+            found.office.names()
         look_at_days(found, asked)
         return found
 

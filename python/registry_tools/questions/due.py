@@ -11,12 +11,12 @@ from registry_tools.calendars.due_days import head_after
 from registry_tools.calendars.ics import calendar_of
 from registry_tools.errors import FileFault
 from registry_tools.notes import MOST_TOLD, counted
-from registry_tools.office import approvals, composing, labels
+from registry_tools.office import approvals, composing
 from registry_tools.office.office import Office
-from registry_tools.office.labels import Labels
-from registry_tools.office.next import about_date
+from registry_tools.texts.labels import Labels
+from registry_tools.pairs.next import about_date
 from registry_tools.office.waits import waits_of
-from registry_tools.questions.compliance import NO_EMISSIONS, SETTLED, Standing, standings
+from registry_tools.pairs.compliance import NO_EMISSIONS, SETTLED, Standing, standings
 from registry_tools.showing import Cell
 from registry_tools.texts.day_text import DayText
 from registry_tools.texts.in_words import grouped, instruction_in_words
@@ -66,7 +66,7 @@ def folded(found: list[Due]) -> list[Due]:
 def due_until(office: Office, until: datetime.date) -> list[Due]:
     """All that is due from the last settled day up to a date, by rising date."""
     day, report = composing.last_pair(office)
-    names = labels.of_office(office)
+    names = office.names()
     known = deadlines(office.settings.due, day, report, names), of_rows(day, report, names), waiting(office, names)
     every = (own for found in (*known, of_calendar(office)) for own in found if own.date <= until)
     return sorted(every, key=lambda own: (own.date, own.what, own.account or 0))

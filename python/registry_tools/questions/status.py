@@ -8,9 +8,11 @@ from registry_tools import streams, tables
 from registry_tools.calendars.working_days import days_in_words
 from registry_tools.errors import FileFault
 from registry_tools.notes import LOOK, counted
-from registry_tools.office import approvals, labels, naming, settling
+from registry_tools.office import approvals
+from registry_tools.pairs import settling
+from registry_tools.texts import naming
 from registry_tools.office.handed import KINDS, HandedIn, Item
-from registry_tools.office.labels import Labels
+from registry_tools.texts.labels import Labels
 from registry_tools.office.office import Office
 from registry_tools.office.waits import waits_of
 from registry_tools.questions.due import missed_days, next_dates
@@ -51,7 +53,7 @@ class Status:
     @property
     def lines(self) -> list[tuple[str, str]]:
         """What people are told: of what, and what; of lines that go on, nothing and what."""
-        names = labels.of_office(self.office)
+        names = self.office.names()
         lines = [*last_lines(self.office, self.handed_in), *waiting_lines(self.office, names)]
         lines += [*handed_lines(self.handed_in, names), *second_lines(self.office, self.handed_in)]
         return [*lines, *lock_lines(self.office)]

@@ -14,7 +14,8 @@ from collections.abc import Iterator
 from dataclasses import dataclass
 
 from registry_tools.errors import WordsFault
-from registry_tools.office import handed, labels
+from registry_tools.office import handed
+from registry_tools.texts import labels
 from registry_tools.office.handed import HandedIn
 from registry_tools.office.office import Office
 from registry_tools.output import NewFolder
@@ -54,7 +55,7 @@ def unpack(office: Office, folder: str, date: datetime.date | None = None) -> Un
             made.write_all(place, files_of_day(office, event))
         if date is None:
             made.write_all("next", files_of_next(handed.for_the_next_day(office.store)))
-            made.write("labels.csv", labels.text_of(office))
+            made.write("labels.csv", office.text_of_names())
             made.write("events.csv", as_csv(ALL, map(row_of, office.events.all)).encode("utf-8", "surrogateescape"))
         made.new.write(SUMS, "".join(f"{own}  {name}\n" for name, own in made.sums.items()))
     days = sum(event in office.events.days for event in wanted)

@@ -2,7 +2,7 @@
 instruction, how operators stand, and the figures that were determined."""
 from collections.abc import Iterable, Iterator, Sequence
 
-from registry_tools.questions import compliance, log
+from registry_tools.pairs import compliance, log
 from registry_tools.sheets import columns
 from registry_tools.showing import Cell
 from registry_tools.texts.day_text import DayText

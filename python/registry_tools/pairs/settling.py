@@ -17,7 +17,7 @@ from registry_tools import installed, proof
 from registry_tools.engine import NotSettled, find_library, tell_once
 from registry_tools.errors import WordsFault, of_file
 from registry_tools.progress import progress
-from registry_tools.questions.verify import expected_rows
+from registry_tools.pairs.verify import expected_rows
 from registry_tools.texts.day_text import DayText
 from registry_tools.texts.rows import text_of_rows
 

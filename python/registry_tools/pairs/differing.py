@@ -5,10 +5,8 @@ from typing import Iterator
 
 from registry_tools.errors import FileFault, WordsFault
 from registry_tools.notes import first_of
-from registry_tools.office.close import Settled
-from registry_tools.store.past import PastDay
 from registry_tools.calendars.due_days import NOT_DUE
-from registry_tools.questions.compliance import last_year_over, standings
+from registry_tools.pairs.compliance import last_year_over, standings
 from registry_tools.second import rules
 from registry_tools.texts.accounts import Block
 from registry_tools.texts.books import Sums, sums_of
@@ -22,11 +20,14 @@ MOST_SHOWN = 30
 HELD, OF_RECORDS = 2, ("retired,",)
 
 
-def all_differences(before: PastDay, after: Settled) -> list[str]:
+Settled = tuple[DayText, Report]
+
+
+def all_differences(before: Settled, after: Settled) -> list[str]:
     """All that differs, in words; nothing, if a day becomes what it was."""
     parts = (
-        of_instructions(before.report, after.report), of_accounts(before.report, after.report),
-        of_compliance(before, after), of_waiting(before.report, after.report),
+        of_instructions(before[1], after[1]), of_accounts(before[1], after[1]),
+        of_compliance(before, after), of_waiting(before[1], after[1]),
     )  # fmt: skip
     return [line for part in parts for line in first_of([*part], MOST_SHOWN)]
 
@@ -115,9 +116,9 @@ def other_rows(block: Block | None) -> set[str]:
 # Compliance, and what waits.
 
 
-def of_compliance(before: PastDay, after: Settled) -> Iterator[str]:
+def of_compliance(before: Settled, after: Settled) -> Iterator[str]:
     """Whose standing is another one, for the last year that is over."""
-    old, new = verdicts(before.day, before.report), verdicts(after.day, after.report)
+    old, new = verdicts(*before), verdicts(*after)
     for number in sorted({*old, *new}):
         was, becomes = old.get(number, "not there"), new.get(number, "not there")
         if was != becomes:

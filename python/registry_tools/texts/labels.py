@@ -16,10 +16,8 @@ from pathlib import Path
 from typing import NamedTuple
 
 from registry_tools.errors import WordsFault, escaped, shown
-from registry_tools.office.office import Office
-from registry_tools.store.events import LABELLED
 from registry_tools.texts.in_words import as_looked_up
-from registry_tools.texts.rows import Rows, rows_of, rows_of_text
+from registry_tools.texts.rows import Rows, rows_of
 
 USER, HOLDER, ACCOUNT = KINDS = ("user", "holder", "account")
 # The columns of a table of names.
@@ -130,16 +128,6 @@ def wrong_name(name: str) -> str:
     if in_sight(name) != name:
         return "a name whose letters can all be seen"
     return f"a name of at most {MOST_LETTERS} letters" if len(name) > MOST_LETTERS else ""
-
-
-def of_office(office: Office) -> Labels:
-    """The names that a folder has: what commands have added, one after another."""
-    return labels_of(rows_of_text(office.store.path, text_of(office).decode("utf-8-sig", "surrogateescape")))
-
-
-def text_of(office: Office) -> bytes:
-    """All rows by which names were given or taken away, as `./day unpack` writes them."""
-    return b"".join(office.store.texts.get(own.text) for own in office.events.all if own.what == LABELLED)
 
 
 def read(path: str | Path) -> Labels:
