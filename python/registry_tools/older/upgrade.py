@@ -12,7 +12,7 @@ from pathlib import Path
 from registry_tools import opening, steps
 from registry_tools.errors import FileFault, of_file, shown
 from registry_tools.office import approvals, handed as todays, people
-from registry_tools.office.labels import labels_of
+from registry_tools.texts.labels import labels_of
 from registry_tools.office.office import Office
 from registry_tools.office.waits import waits_text
 from registry_tools.older import faults, handed, journal
