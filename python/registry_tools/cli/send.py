@@ -102,7 +102,8 @@ def of_folder(said: argparse.Namespace) -> Sent:
         else:
             must_still_be_there(office, day)
 
-    return send(own, names, wanted, said.folder, keep)
+    with days.telling_of_tables(office.store.path):
+        return send(own, names, wanted, said.folder, keep)
 
 
 def must_be_proved(day: Event) -> None:

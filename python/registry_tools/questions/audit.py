@@ -109,7 +109,7 @@ class Found:
             raise
         except FileFault as fault:
             self.add(fault, mend=mend)
-        except (sqlite3.Error, OverflowError) as error:
+        except (*file.UNREADABLE, OverflowError) as error:
             self.add(checks.unreadable(self.office.store.path, error))
 
     def summary(self) -> str:
@@ -130,8 +130,7 @@ def audit(path: Path, asked: Audit) -> Found:
             for fault in events.faults_of(db, store.events):
                 found.add(fault)
                 found.has_events = False
-        with found.adding():
-            look_at_heads(found, asked)
+        look_at_heads(found, asked)
         look_at_texts(found, asked.begin)
         look_at_handed(found)
         with found.adding():
@@ -149,7 +148,9 @@ def look_at_heads(found: Found, asked: Audit) -> None:
     faults: list[FileFault | None] = []
     if asked.since_date is not None and asked.since is None:
         raise WordsFault("--date tells the last day of --since HEAD, which is not there")
-    earlier = [*earlier_lines(store)]
+    earlier: list[str] = []
+    with found.adding():
+        earlier += earlier_lines(store)
     if asked.since is not None:
         faults.append(anchors.not_grown(store.events, anchors.head_of(asked.since), asked.since_date, earlier))
     for line, anchor in anchors.read(asked.anchors) if asked.anchors is not None else ():

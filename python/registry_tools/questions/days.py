@@ -6,8 +6,9 @@ import functools
 import sqlite3
 from collections.abc import Iterator, Sequence
 from dataclasses import dataclass, field
+from pathlib import Path
 
-from registry_tools.errors import WordsFault
+from registry_tools.errors import WordsFault, of_file
 from registry_tools.store import daybook
 from registry_tools.store.file import Store, telling
 from registry_tools.store.past import PastDay, Pair, pair_of, read, read_all
@@ -70,8 +71,19 @@ def of_store(store: Store) -> Days:
 @contextlib.contextmanager
 def at_one_moment(store: Store) -> Iterator[Days]:
     """The days of a folder as they are at one moment: whoever changes the file waits for the end of the block."""
-    with telling(store.path), store.reading():
+    with telling_of_tables(store.path), store.reading():
         yield of_store(store)
+
+
+@contextlib.contextmanager
+def telling_of_tables(path: Path) -> Iterator[None]:
+    """Has tables that do not have what days have be a fault of their file: commands do not leave them so."""
+    try:
+        with telling(path):
+            yield
+    except (LookupError, TypeError, ValueError, OverflowError) as error:
+        why = f"its tables do not have what the days have ({type(error).__name__} {error}): ./day audit tells more"
+        raise of_file(path, why) from error
 
 
 def of_pairs(pairs: Sequence[Pair]) -> Days:

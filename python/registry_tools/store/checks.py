@@ -25,7 +25,7 @@ def asked(ask: Callable[[sqlite3.Connection, Path], Faults], db: sqlite3.Connect
     """What a question finds; and that it can't be answered, if that is so."""
     try:
         yield from [*ask(db, path)]
-    except (sqlite3.Error, OverflowError) as error:
+    except (*file.UNREADABLE, OverflowError) as error:
         yield unreadable(path, error)
 
 

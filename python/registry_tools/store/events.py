@@ -87,6 +87,8 @@ class Event:
 # The columns between `before` and `line`.
 COLUMNS = tuple(own.name for own in fields(Event))[:-3]
 ALL = ("id", "before", *COLUMNS, "line")
+# Those that are numbers.
+NUMBERS = ("id", "base", "of", "start", "count", "first", "next")
 # The columns that have nothing in place of an empty text.
 MAY_LACK = ("text", "report", "waiting", "waits")
 
@@ -104,6 +106,11 @@ def value_of(name: str, value: object) -> object:
 def event_of(row: sqlite3.Row | tuple[object, ...]) -> Event:
     """The event of a row, with all columns in their order. Raises ValueError or TypeError if it can't be one."""
     said = dict(zip(ALL, row))
+    for name, value in said.items():
+        if value is None and name not in ("date", "of", *MAY_LACK):
+            raise TypeError(f"nothing as {name}")
+        if value is not None and type(value) is not (int if name in NUMBERS else str):
+            raise TypeError(f"{type(value).__name__} as {name}")
     texts = {name: said[name] or "" for name in MAY_LACK}
     date = NO_DATE if said["date"] is None else datetime.date.fromisoformat(str(said["date"]))
     own: dict[str, Any] = {**said, **texts, "date": date}

@@ -30,6 +30,8 @@ OTHERS_WRITE = stat.S_IWGRP | stat.S_IWOTH
 MOST_WAIT, SHORT_WAIT = 60_000, 200
 # What an open file keeps in memory, in KiB.
 CACHE = 64 * 1024
+# How SQLite says that it can't read a file. (Its sentences may have bytes of the file in them.)
+UNREADABLE = (sqlite3.DatabaseError, UnicodeError)
 OLDER = "a folder of version 1.1: ./day upgrade FOLDER makes the file of it"
 BY_OTHERS = "the file of one login: who else works with the folder comes by its desk"
 
@@ -147,7 +149,7 @@ def telling(path: Path) -> Iterator[None]:
     """Has an error of SQLite in the block be a fault of this file."""
     try:
         yield
-    except sqlite3.DatabaseError as error:
+    except UNREADABLE as error:
         what = str(error)
         if "readonly" in what or "full" in what or "disk I/O" in what or "unable to open" in what:
             raise UnwrittenFault(path, 0, "", f"it cannot be written: {what}", "") from None
