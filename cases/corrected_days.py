@@ -1,17 +1,14 @@
 """Settled days that are corrected: each is what the same days become that are taken back and closed once more by other
 commands; what could not be is refused, and changes nothing."""
-import errno
 import re
 import shutil
+from collections.abc import Iterator
 from pathlib import Path
-from typing import Iterator
-from unittest import mock
 
-from damaged_office import unchanged
 from harness import TOP, Said, differs
-from offices import must_do, told
+from offices import FILE, changed, events_of, handed_to, must_do, rows_of, text_of, told, unchanged
 
-from registry_tools.office import correct, handed_journal, journal, people, prepared
+from registry_tools.office import correct, folder, handed, people
 
 WEEK, RULES = TOP / "examples" / "week", TOP / "tools" / "rules.py"
 MONDAY, TUESDAY, WEDNESDAY, THURSDAY = (f"2025-09-{day}" for day in (22, 23, 24, 25))
@@ -31,7 +28,7 @@ def corrected_trials(work: Path) -> Iterator[Told]:
     base = work / "base"
     made(base)
     for trials in (
-        same_trials, shown_trials, refused_trials, law_trials, later_trials, index_trials, interrupted_trials,
+        same_trials, shown_trials, refused_trials, law_trials, later_trials, asked_trials,
     ):  # fmt: skip
         yield from trials(work, base)
     yield from first_trials(work)
@@ -63,9 +60,14 @@ def copy_of(base: Path, name: str) -> tuple[Path, list[str]]:
 
 
 def texts_of(office: Path) -> dict[str, bytes]:
-    """What was filed of each day, but who handed it in when; and what waits."""
-    paths = [path for path in sorted((office / "days").rglob("*")) if path.is_file() and path.name != "handed-in.csv"]
-    return {str(path.relative_to(office)): path.read_bytes() for path in (*paths, office / "next" / "waits.csv")}
+    """What counts of each day: its texts, and what came into it."""
+    days = [date for (date,) in rows_of(office, "SELECT date FROM filed")]
+    found = {f"{date} {own}": text_of(office, date, own) for date in days for own in ("text", "report", "waiting", "waits")}
+    with folder.at(office) as there:
+        for event in there.events.days:
+            parts = handed.for_a_day(there.store, event).contents()
+            found.update({f"{event.date} {kind}": content for kind, content in parts.items()})
+    return found
 
 
 # What it becomes.
@@ -95,10 +97,10 @@ def same_trials(work: Path, base: Path) -> Iterator[Told]:
         said = Said("correct", TUESDAY, *words, *WHY, "--yes", *own)
         yield name, None if said.status == 0 and "is corrected" in said.output else said
         there, wanted = texts_of(office), texts_of(by_hand)
-        yield f"{name}: each file", [key for key in {*there, *wanted} if there.get(key) != wanted.get(key)]
+        yield f"{name}: each text", [key for key in {*there, *wanted} if there.get(key) != wanted.get(key)]
         yield f"{name}: audit", told(0, ["days 3", "0 differences"], "audit", "--second", "--settle", *own)
         yield f"{name}: handed in since", told(0, ["handed in: 1", "general,11 (since.csv"], "status", *own)
-        events = [event.event for event in journal.read(office / "journal.csv").events[-4:]]
+        events = [own for own in events_of(office, "what") if own in ("filed", "undone")][-4:]
         yield f"{name}: its lines", differs(events, ["undone", "undone", "filed", "filed"])
         yield f"{name}: then as any other", told(0, [f"{THURSDAY} is settled"], "close", "--date", THURSDAY, *own)
 
@@ -139,7 +141,7 @@ def later_trials(work: Path, base: Path) -> Iterator[Told]:
     yield "audit", told(0, ["days 3", "0 differences"], "audit", "--second", *own)
     found = Said("find", "--refused", "--csv", "--to", TUESDAY, *own).output
     yield "both are left out", None if "KindNotAllowed" not in found and "UnknownAccount" not in found else found
-    block = (office / "days" / WEDNESDAY / "changes.csv").read_text().splitlines()
+    block = handed_to(office, WEDNESDAY, "changes").decode().splitlines()
     yield "the account has its own numbers", None if any(row.startswith("retired,61010,") for row in block) else block
     yield "who changed it", told(0, ["wednesday-changes.csv"], "changes", *own)
     office, own = copy_of(base, "office")
@@ -149,7 +151,7 @@ def later_trials(work: Path, base: Path) -> Iterator[Told]:
     path.write_text(text)
     words = ["correct", TUESDAY, "--with", str(path), *WHY, "--yes", *own]
     yield "what a later day changes too", told(0, [f"{WEDNESDAY}: account 100377 was", "is corrected"], *words)
-    block = (office / "days" / WEDNESDAY / "changes.csv").read_text().splitlines()
+    block = handed_to(office, WEDNESDAY, "changes").decode().splitlines()
     yield "it is there once", differs(sorted(row for row in block if row.startswith("user,52")), USERS)
 
 
@@ -169,32 +171,19 @@ def first_trials(work: Path) -> Iterator[Told]:
     must_do(["close", "--date", MONDAY, *own])
     without = ["--without", "61009", "--without", "61008", "--without", "61003"]
     yield "the first day", told(0, ["is corrected"], "correct", MONDAY, *without, *WHY, "--yes", *own)
-    filed = handed_journal.read_journal(office / "days" / MONDAY / "handed-in.csv")
-    yield "what stays", differs([(part.start, part.name) for part in filed.parts], [(1, "monday.csv"), (7, "11.csv")])
-    yield "who approved it", differs([(each.place, each.login) for each in filed.approved], [(7, f"{login}:eva")])
-    yield "its file", differs((office / "days" / MONDAY / "do.csv").read_text(), f"{row}11\n")
+    with folder.at(office) as there:
+        filed = handed.for_a_day(there.store, there.events.days[0])
+        yield "what stays", differs([(part.start, part.name) for part in filed.parts], [(1, "monday.csv"), (7, "11.csv")])
+        yield "who approved it", differs([(each.place, each.login) for each in filed.approved], [(7, f"{login}:eva")])
+        yield "its rows", differs(filed.contents()["do"].decode(), f"{row}11\n")
     yield "the first day: audit", told(0, ["0 differences"], "audit", "--second", *own)
 
 
-def interrupted_trials(_work: Path, base: Path) -> Iterator[Told]:
-    """What can't be moved into its place behind the one step, the next command moves; both name the first day."""
-    office, own = copy_of(base, "office")
-    words = ["correct", TUESDAY, "--without", "61010", *WHY, "--yes", *own]
-    has = [f"{TUESDAY} is corrected; the next command puts the rest in place"]
-    with mock.patch.object(prepared, "put_in_place", side_effect=OSError(errno.EIO, "a broken disk")):
-        yield "interrupted behind its step", told(0, has, *words)
-    has = [f"when its work was done: {TUESDAY} is corrected, and all is in its place now"]
-    yield "put in place", told(0, has, "status", *own)
-    yield "and all is there", told(0, ["days 3", "0 differences"], "audit", *own)
-
-
-def index_trials(_work: Path, base: Path) -> Iterator[Told]:
+def asked_trials(_work: Path, base: Path) -> Iterator[Told]:
     """Questions over all days are answered of the new days."""
     office, own = copy_of(base, "office")
     must_do(["balance", "100210", *own], ["correct", TUESDAY, "--without", "61010", *WHY, "--yes", *own])
     said = Said("balance", "100210", *own).output
-    (office / "index.sqlite").unlink()
-    yield "by the index as without it", differs(said, Said("balance", "100210", *own).output)
     yield "the new balance", None if "37,400" in said or "37400" in said else said
 
 
@@ -219,10 +208,9 @@ def refused_trials(work: Path, base: Path) -> Iterator[Told]:
     ):  # fmt: skip
         yield name, unchanged(office, status, [has], "correct", *words, *WHY, "--yes", *own)
     yield "no reason", unchanged(office, 2, ["--why"], "correct", TUESDAY, *wrong, "--yes", *own)
-    path = office / "days" / WEDNESDAY / "do.csv"
-    path.write_text(path.read_text() + "\n")
+    changed(office, f"DELETE FROM texts WHERE sum = (SELECT report FROM filed WHERE date = '{TUESDAY}')")
     words = ["correct", TUESDAY, *wrong, *WHY, "--yes", *own]
-    yield "a file that somebody changed", unchanged(office, 3, ["do.csv"], *words)
+    yield "a text that is gone", unchanged(office, 3, [FILE, "no such text"], *words)
     yield from reversal_trials(work, base)
 
 
