@@ -111,6 +111,9 @@ class Found:
             self.add(fault, mend=mend)
         except (*file.UNREADABLE, OverflowError) as error:
             self.add(checks.unreadable(self.office.store.path, error))
+        except (LookupError, TypeError, ValueError) as error:
+            # (events that do not follow from each other lead nowhere)
+            self.add(checks.unreadable(self.office.store.path, f"{type(error).__name__} {error}"))
 
     def summary(self) -> str:
         """The last line, with the counts."""
@@ -144,17 +147,14 @@ def audit(path: Path, asked: Audit) -> Found:
 
 def look_at_heads(found: Found, asked: Audit) -> None:
     """Whether the folder has grown from each head that was kept elsewhere."""
-    store, key = found.office.store, found.office.settings.key
+    key = found.office.settings.key
     faults: list[FileFault | None] = []
     if asked.since_date is not None and asked.since is None:
         raise WordsFault("--date tells the last day of --since HEAD, which is not there")
-    earlier: list[str] = []
-    with found.adding():
-        earlier += earlier_lines(store)
     if asked.since is not None:
-        faults.append(anchors.not_grown(store.events, anchors.head_of(asked.since), asked.since_date, earlier))
+        faults.append(not_grown(found, anchors.head_of(asked.since), asked.since_date))
     for line, anchor in anchors.read(asked.anchors) if asked.anchors is not None else ():
-        faults.append(anchors.not_grown(store.events, anchor.head, anchor.date, earlier))
+        faults.append(not_grown(found, anchor.head, anchor.date))
         wrong = anchors.wrong_signature(anchor, key) if key else ""
         if wrong:
             found.add(FileFault(asked.anchors or "", line, "SIGNATURE", wrong, f"one by {key}"))
@@ -163,13 +163,11 @@ def look_at_heads(found: Found, asked: Audit) -> None:
         found.heads = f", grown from {faults.count(None)} of {counted(len(faults), 'head', 'heads')} kept"
 
 
-def earlier_lines(store: Store) -> Iterator[str]:
-    """The lines of the journal of an older version, of which the file was made: heads of then are still heads of the
-    folder."""
-    for event in store.events.all:
-        if event.what == events.UPGRADED and event.text:
-            text = store.texts.get(event.text).decode("utf-8", "surrogateescape")
-            yield from (row.rpartition(",")[2] for row in text.split("\n"))
+def not_grown(found: Found, head: str, date: datetime.date | None) -> FileFault | None:
+    """What shows that a folder has not grown from a head, or that this can't be told; nothing, if it has."""
+    with found.adding():
+        return anchors.not_grown(found.office.store, head, date)
+    return checks.unreadable(found.office.store.path, "no head can be looked for")
 
 
 # Texts, and what was handed in.

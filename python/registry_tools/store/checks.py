@@ -29,8 +29,8 @@ def asked(ask: Callable[[sqlite3.Connection, Path], Faults], db: sqlite3.Connect
         yield unreadable(path, error)
 
 
-def unreadable(path: Path, error: Exception) -> FileFault:
-    """That SQLite can't answer something of a file."""
+def unreadable(path: Path, error: object) -> FileFault:
+    """That something of a file can't be told."""
     return of_file(path, f"it cannot be read: {error}; {BACK}")
 
 
