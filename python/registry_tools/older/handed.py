@@ -38,7 +38,7 @@ FORMS = (
     "handed,AT,WHO,KIND,PLACE,COUNT,DAY,FILE,SHA-256,NAME,LOGIN, of,FILE,SOURCE,SHA-256,NAME,"
     " taken,AT,WHO,PLACE,WHY,LOGIN or approved,AT,WHO,PLACE,LOGIN"
 )
-ASKED_FORM = "asked,AT,WHO,LOGIN,COMMAND,DATE,WORDS,STATE,RESULT,BESIDE"
+ASKED_FORM = "asked,AT,WHO,LOGIN,COMMAND,DATE,WORDS,STATE,RESULT"
 APPROVED_FORM = "approved,AT,WHO,LOGIN,SUM,WHAT"
 # So many digits of a sum are the name of a file.
 NAME_DIGITS = 16
@@ -110,12 +110,13 @@ class Asked(NamedTuple):
     words: str
     state: str
     result: str
-    beside: str
+    # What it does beside; the first files do not say it.
+    beside: str | None = None
 
     @property
     def sum(self) -> str:
         """The sum of what is asked for, whoever asks and whenever."""
-        return sum_of(row_of([*self[3:]]).encode("utf-8", "surrogateescape"))
+        return sum_of(row_of([own for own in self[3:] if own is not None]).encode("utf-8", "surrogateescape"))
 
 
 class Approval(NamedTuple):
@@ -318,14 +319,15 @@ def rows_said(handed: HandedIn) -> set[tuple[str, str]]:
     return found
 
 
-def row_in(path: Path, content: bytes, tag: str, form: str) -> list[str]:
-    """The fields of the one row of a file, behind its tag."""
+def row_in(path: Path, content: bytes, tag: str, form: str, more: int = 0) -> list[str]:
+    """The fields of the one row of a file, behind its tag: those of its form, and perhaps so many more."""
     rows: list[list[str]] = []
     try:
         rows += [*csv.reader(content.decode("utf-8", "surrogateescape").splitlines())]
     except csv.Error:
         rows.clear()
-    if len(rows) != 1 or len(rows[0]) != form.count(",") + 1 or rows[0][0] != tag:
+    count = form.count(",") + 1
+    if len(rows) != 1 or not count <= len(rows[0]) <= count + more or rows[0][0] != tag:
         raise FileFault(path, 0, "row", shown(content[:80].decode("utf-8", "replace")), form)
     return rows[0][1:]
 
@@ -339,7 +341,7 @@ def read_approvals(handed: HandedIn, journal: Journal, named: People) -> None:
         try:
             content, user = owned(path)
             if path.name.startswith("asked-"):
-                asked = Asked(*row_in(path, content, "asked", ASKED_FORM))
+                asked = Asked(*row_in(path, content, "asked", ASKED_FORM, more=1))
                 is_own = people.login_of(user) == people.owner_of(asked.login)
                 if is_own and path.name == f"asked-{asked.command}-{asked.date}.csv" and asked.state == state:
                     handed.asked.append(asked)

@@ -216,7 +216,7 @@ class Making:
         for taken in there.taken:
             of = made[taken.place].id if taken.place in made else None
             self.add(Event(TAKEN, taken.at, taken.login, taken.who, taken.why, of=of, start=taken.place))
-        for by in there.approved:
+        for by in there.approved if old is not None else ():
             if by.place in made:
                 where = todays.places(by.place, by.place + made[by.place].count)
                 self.add(Event(APPROVED, by.at, by.login, by.who, of=made[by.place].id, name=where))
@@ -264,7 +264,7 @@ class Making:
             result = self.made[asked.result].line if asked.result in self.made else asked.result
             own = self.add(Event(
                 ASKED, asked.at, asked.login, asked.who, date=datetime.date.fromisoformat(asked.date),
-                kind=asked.command, name=asked.words, sum=result, beside=asked.beside,
+                kind=asked.command, name=asked.words, sum=result, beside=asked.beside or "",
             ))  # fmt: skip
             today = approvals.Asked(own, self.store.events.state)
             for by in there.approvals:
