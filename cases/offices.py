@@ -92,6 +92,16 @@ def handed_to(path: Path, date: str, kind: str) -> bytes:
     return b"".join(zlib.decompress(packed) for (packed,) in rows_of(path, statement, date, kind))
 
 
+def handed_now(path: Path) -> list[tuple[str, str, bytes]]:
+    """What is handed in for the next day: the kind, the name and the content of each thing; and of what it was made."""
+    statement = (
+        "SELECT own.kind, own.name, packed FROM events AS own JOIN texts ON texts.sum = own.text WHERE what IN"
+        " ('handed', 'source') AND (own.id IN (SELECT id FROM handed_for_the_next_day)"
+        " OR own.of IN (SELECT coalesce(of, id) FROM handed_for_the_next_day) AND what = 'source') ORDER BY own.id"
+    )
+    return [(kind, name, zlib.decompress(packed)) for kind, name, packed in rows_of(path, statement)]
+
+
 def content_of(path: Path) -> object:
     """All that a folder has, to the second: its settings, and each row of its file."""
     if not (path / FILE).exists():

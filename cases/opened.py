@@ -107,13 +107,3 @@ def cell_of(cell: str, times: int) -> str:
         value = 'office:value-type="string"'
     start = f"<table:table-cell{repeated('columns', times)} {value}>"
     return f"{start}{NOTE}<text:p>{escape(cell)}</text:p></table:table-cell>"
-
-
-def named_files(folder: Path) -> set[str]:
-    """The names of the files of a folder."""
-    return {path.name for path in folder.iterdir()}
-
-
-def bytes_of_next(office: Path) -> dict[str, bytes]:
-    """All that was handed in."""
-    return {path.name: path.read_bytes() for path in (office / "next").iterdir()}
