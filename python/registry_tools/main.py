@@ -138,9 +138,9 @@ def run(name: str, arguments: list[str]) -> int:
     module = module_of(name)
     try:
         words = parser_of(name, module, named_day.is_named(name, arguments)).parse_args(arguments)
-        named_day.look_up(name, words)
-        look_at_files(words)
-        return module.run(words)
+        with named_day.looked_up(name, words):
+            look_at_files(words)
+            return module.run(words)
     except SystemExit as end:
         # (the help was written, or the words are not taken)
         return int(end.code or 0)

@@ -48,8 +48,7 @@ def opened(said: argparse.Namespace) -> Iterator[Asked]:
         with contextlib.closing(days.of_pairs(days.pairs_named(said.pairs))) as own:
             yield Asked(own, None, Labels())
         return
-    office = folder.opened(said.office)
-    with days.at_one_moment(office.store) as own:
+    with folder.opened(said.office) as office, days.at_one_moment(office.store) as own:
         yield Asked(own, office, office.names())
 
 

@@ -22,6 +22,7 @@ def add_words(parser: argparse.ArgumentParser) -> None:
 
 def run(said: argparse.Namespace) -> int:
     """Runs the command, and answers the exit status."""
-    made = backup(folder.opened(said.office).store, said.file)
+    with folder.opened(said.office) as office:
+        made = backup(office.store, said.file)
     print(f"{said.file}: events {made.events}, days {made.days}, head {made.head}")
     return 0

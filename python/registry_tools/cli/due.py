@@ -38,13 +38,13 @@ def add_words(parser: argparse.ArgumentParser) -> None:
 
 def run(said: argparse.Namespace) -> int:
     """Runs the command, and answers the exit status."""
-    office = folder.opened(said.office)
-    until = asked.date_or("--until", said.until, last_shown(office))
-    found = due_until(office, until)
+    with folder.opened(said.office) as office:
+        until = asked.date_or("--until", said.until, last_shown(office))
+        found, names = due_until(office, until), office.names()
     if said.ics is not None:
         NewFile(said.ics, as_calendar(found, until)).keep()
         print(f"{said.ics}: entries {len(found)}")
         return 0
     rows = [own.cells() for own in (found if showing.is_for_programs(said) else folded(found))]
-    showing.show(said, COLUMNS, asked.rows_shown(said, COLUMNS, rows, office.names()))
+    showing.show(said, COLUMNS, asked.rows_shown(said, COLUMNS, rows, names))
     return 0

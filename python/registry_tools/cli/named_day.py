@@ -6,6 +6,7 @@ import contextlib
 import itertools
 import os
 import re
+from collections.abc import Iterator
 from typing import Any
 
 from registry_tools.calendars.dates import DATE, date_of, is_date
@@ -59,8 +60,9 @@ def add_words(name: str, parser: Words) -> None:
 def in_place_of_paths(word: str | None = None) -> str:
     """The last day of a folder, as it is named where paths lack; nothing, if there is none."""
     with contextlib.suppress(WordsFault, FileFault):
-        last = folder.opened(word).store.events.last()
-        return f"; {DAY} {last.date} names the last day of the folder" if last else ""
+        with folder.opened(word) as office:
+            last = office.events.last()
+            return f"; {DAY} {last.date} names the last day of the folder" if last else ""
     return ""
 
 
@@ -86,13 +88,21 @@ def is_named(name: str, arguments: list[str]) -> bool:
     return is_date(word) or bool(LIKE_A_DATE.fullmatch(word) and not os.path.exists(word))
 
 
-def look_up(name: str, said: argparse.Namespace) -> None:
-    """Puts the texts of the days that words name into them, as if their paths had been given. Raises WordsFault if the
-    folder has no such day."""
+@contextlib.contextmanager
+def looked_up(name: str, said: argparse.Namespace) -> Iterator[None]:
+    """Puts the texts of the days that words name into them, as if their paths had been given: they can be read in the
+    block. Raises WordsFault if the folder has no such day."""
     named = getattr(said, "_dates", None)
     if named is None:
+        yield
         return
-    office = folder.opened(said._office)  # noqa: SLF001
+    with folder.opened(said._office) as office:  # noqa: SLF001
+        look_up(name, office, named, said)
+        yield
+
+
+def look_up(name: str, office: Office, named: Any, said: argparse.Namespace) -> None:
+    """Does so with the days of an open folder."""
     if TAKES[name] == REPORTS:
         pairs = [pair_of(office.store, day_of(office, date)) for date in named]
         said.days, said.reports = [pair.day for pair in pairs], [pair.report for pair in pairs]

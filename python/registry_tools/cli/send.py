@@ -14,7 +14,7 @@ holder,NUMBER,NAME and account,NUMBER,NAME, in UTF-8. A letter tells the head of
 A day that is not released is told, since it may be undone behind its letters: --release releases it with them.
 """
 import argparse
-import sys
+from dataclasses import replace
 
 from registry_tools.cli import asked, named, words
 from registry_tools.errors import WordsFault
@@ -22,7 +22,7 @@ from registry_tools.notes import LOOK
 from registry_tools.office import folder, release
 from registry_tools.texts import labels
 from registry_tools.office.approvals import AskedFor
-from registry_tools.office.office import Office
+from registry_tools.office.office import By, Office
 from registry_tools.pages.send import Send, Sent, send, span_of
 from registry_tools.questions import days
 from registry_tools.store.events import HEAD_DIGITS, Event
@@ -74,36 +74,36 @@ def of_folder(said: argparse.Namespace) -> Sent:
     """Makes the packages of a folder, and releases their last day with them, if the words ask for it."""
     if said.pending:
         raise WordsFault("--pending is for --pairs: a folder knows what waits")
-    office = folder.opened(said.office)
-    own = days.of_store(office.store)
-    wanted = send_of(said, own)
-    day = office.store.events.day_of(wanted.end)
-    assert day is not None  # (it is one of the dates)
-    wanted = Send(wanted.begin, wanted.end, wanted.holders, kept(office.store, day, "waiting"))
-    names = office.names() if said.labels is None else labels.read(said.labels)
-    by = words.by(said, office.people)
-    is_released = office.store.events.is_released(day)
-    if not is_released and said.release:
-        must_be_proved(day)
-    elif not is_released:
-        released = "it may be undone behind its letters; --release releases it with them"
-        print(f"{LOOK}: {day.date} is not released: {released}", file=sys.stderr)
+    with folder.opened(said.office) as office, days.telling_of_tables(office.store.path):
+        own = days.of_store(office.store)
+        wanted = send_of(said, own)
+        day = office.events.day_of(wanted.end)
+        assert day is not None  # (it is one of the dates)
+        wanted = replace(wanted, pending=kept(office.store, day, "waiting"))
+        names = office.names() if said.labels is None else labels.read(said.labels)
+        by, is_released = words.by(said, office.people), office.events.is_released(day)
+        if not is_released and said.release:
+            must_be_proved(day)
+        elif not is_released:
+            released = "it may be undone behind its letters; --release releases it with them"
+            words.to_errors(f"{LOOK}: {day.date} is not released: {released}")
+        # (all letters are there, and get their names behind it: no day is taken back behind its letters)
+        return send(own, names, wanted, said.folder, lambda: keep(said, office, by, day))
 
-    def keep() -> None:
-        if said.release and not is_released:
-            # (all letters are there, and get their names behind it: no day is taken back behind its letters)
-            came = release.release_if_there(office, by, day, f"letters in {said.folder}")
-            if isinstance(came, AskedFor):
-                words.tell_asked_for(came)
-                raise WordsFault(f"{day.date} is not released yet, and nothing was made")
-            if came:
-                words.to_errors(f"head: {came.event.line[:HEAD_DIGITS]}")
-            words.to_errors(f"{day.date} is released: it is not undone any more")
-        else:
-            must_still_be_there(office, day)
 
-    with days.telling_of_tables(office.store.path):
-        return send(own, names, wanted, said.folder, keep)
+def keep(said: argparse.Namespace, office: Office, by: By, day: Event) -> None:
+    """Releases the day of the letters, if the words ask for it and it is not released; else it has to be there
+    still."""
+    if not said.release or office.events.is_released(day):
+        must_still_be_there(office, day)
+        return
+    came = release.release_if_there(office, by, day, f"letters in {said.folder}")
+    if isinstance(came, AskedFor):
+        words.tell_asked_for(came)
+        raise WordsFault(f"{day.date} is not released yet, and nothing was made")
+    if came:
+        words.to_errors(f"head: {came.event.line[:HEAD_DIGITS]}")
+    words.to_errors(f"{day.date} is released: it is not undone any more")
 
 
 def must_be_proved(day: Event) -> None:

@@ -29,6 +29,7 @@ def add_words(parser: argparse.ArgumentParser) -> None:
 
 def run(said: argparse.Namespace) -> int:
     """Runs the command, and answers the exit status."""
-    made = unpack(folder.opened(said.office), said.folder, asked.date_or("--day", said.day, None))
+    with folder.opened(said.office) as office:
+        made = unpack(office, said.folder, asked.date_or("--day", said.day, None))
     print(f"{said.folder}: days {made.days}, files {made.files}, head {made.head}")
     return 0
