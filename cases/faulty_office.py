@@ -15,7 +15,7 @@ from damaged_office import CLOSE, DAY, ROW, Trial, Words, two_days
 from harness import TOP, Said, differs
 from offices import FIRST, events_of, must_do, must_do_either, new_office, text_of, told, unchanged
 
-from registry_tools.office import settling
+from registry_tools.pairs import settling
 from registry_tools.second import rules
 from registry_tools.texts.day_text import read_day
 from registry_tools.calendars.due_days import due_day_after

@@ -20,7 +20,7 @@ from registry_tools.pages import index
 from registry_tools.pages.plan import MOST_BOXES
 from registry_tools.pages.rulebook import ACTS
 from registry_tools.pages.summary import MOST_SHOWN
-from registry_tools.questions import compliance
+from registry_tools.pairs import compliance
 from registry_tools.second import rules
 from registry_tools.texts.outdated import Entries
 from registry_tools.texts.follows import read_pair
