@@ -198,7 +198,9 @@ def read(db: sqlite3.Connection, path: Path) -> Events:
 def faults_of(db: sqlite3.Connection, events: Events) -> Iterator[FileFault]:
     """What is wrong with the events of a file. Those that can be read are taken up, as far as they follow from each
     other."""
-    for place, row in enumerate(db.execute(f"SELECT {', '.join(ALL)} FROM events ORDER BY id"), 1):
+    # (a question that is left half answered would keep others from changing the file)
+    rows = db.execute(f"SELECT {', '.join(ALL)} FROM events ORDER BY id").fetchall()
+    for place, row in enumerate(rows, 1):
         where = f"event {row[0]}"
         try:
             event = event_of(row)
