@@ -2,10 +2,12 @@
 of the names of Python's own, strangers' bodies, headers that name another one. Each attempt says what it must get."""
 from __future__ import annotations
 
+import html
 import os
 import shutil
 import socket
 import subprocess
+import urllib.parse
 from collections.abc import Iterator
 from pathlib import Path
 
@@ -13,9 +15,12 @@ from harness import MOST_SECONDS, TOP, Said, differs
 from hostile_tables import CSV, OPEN_DOCUMENTS, WORKBOOKS
 from real_desk import Browser, RealDesk
 
-from registry_tools import outcomes
-from registry_tools.desk.words import seen
-from registry_tools.office.words import CAME_LATE
+from registry_tools import outcomes, voice
+from registry_tools.desk import jobs
+from registry_tools.desk.jobs import MOST_BYTES_WAITING, MOST_FILES, MOST_WAITING
+from registry_tools.errors import WordsFault
+from registry_tools.main import FOR_DESK
+from registry_tools.office.office import CAME_LATE
 
 Attempts = Iterator[tuple[str, object]]
 WEEK = TOP / "examples" / "week"
@@ -305,35 +310,76 @@ def cookie_of(browser: Browser) -> str:
 
 # What a page says, and what a command says of itself.
 
-# A page of a desk over the folder /days, in whose fields somebody typed a path.
-PAGE = '<a href="/days">Days</a><a href="/days/2025-09-22">22</a><input value="/days/x of /days">'
-
 
 def page_attempts(work: Path) -> Attempts:
     """Where a folder lies changes no page, and no sentence says to the desk what came of a command."""
-    shown = seen(f"{PAGE}/days/next is in /days", "/days", "/p")
-    yield "the folder /days", differs(shown, f"{PAGE}next is in the folder")
-    longer = "/srv/days/x, /daysx and /days.old are others"
-    yield "paths that are longer", differs(seen(longer, "/days", "/p"), longer)
+    desk_voice = voice.Desk(Path("/days"))
+    for path, wanted in (
+        ("/days/next", "next"), ("/days", "the folder"), ("/srv/days/x", "/srv/days/x"), ("/daysx", "/daysx"),
+        ("/days.old", "/days.old"),
+    ):  # fmt: skip
+        yield f"the file {path} of the folder /days", differs(desk_voice.path(path), wanted)
     office = office_of(work)
     lines: list[tuple[str, int, str, list[object]]] = [
         ("done", 0, "done", ["status"]), ("a file that is not there", 3, "nothing", ["hand-in", work / "none.csv"]),
         ("words that do not fit", 2, "nothing", ["undo", "2025-09-21", "--why", "x"]),
-        ("late", 2, "late", ["release", "2025-09-22", "--why", "x", "--yes", "--seen", f"{'0' * 64}.1.1.{'0' * 16}"]),
+        ("late", 2, "late", ["release", "2025-09-22", "--why", "x", "--yes", "--seen", "0" * 64]),
         ("words as if it was late", 2, "nothing", ["undo", f"{CAME_LATE}", "--why", "x"]),
     ]  # fmt: skip
     for what, status, kind, line in lines:
         file = work / "outcome.json"
-        plain, said = Said(*line, "--office", office), Said("--outcome", file, *line, "--office", office)
+        plain, said = Said(*line, "--office", office), Said(FOR_DESK, office, file, *line, "--office", office)
         own = outcomes.read(file)
         is_so = own and (own.kind.value, own.status) == (kind, status) and len(own.faults) == (1 if status else 0)
         yield f"what came of a command: {what}", None if is_so else (own, said)
-        is_same = (plain.status, plain.output, plain.errors) == (said.status, said.output, said.errors)
-        yield f"its words are the same: {what}", None if is_same else (plain, said)
+        yield f"its status is the same: {what}", differs(said.status, plain.status)
+    yield from typed_attempts(office, work)
+    yield from waiting_attempts(work / "waiting")
+
+
+def typed_attempts(office: Path, work: Path) -> Attempts:
+    """What somebody types comes back as it is, and the ways of a page stay, whatever the folder is called."""
+    days = office.with_name("days")
+    office.rename(days)
+    with RealDesk(days, work / "days-log", "--who", "ana") as desk:
+        browser = Browser(desk).came_in()
+        typed = f"{days}/x of {days} by ./day undo --date"
+        told = browser.get(f"/find?typed=1&name={urllib.parse.quote(typed)}").text
+        yield "a path that was typed", None if f'value="{html.escape(typed)}"' in told else told[-900:]
+        yield "the ways of the page", None if 'href="/days"' in told else told[:900]
+    days.rename(office)
+
+
+def waiting_attempts(work: Path) -> Attempts:
+    """Nobody fills the disk of a desk by files that wait for a yes."""
+    work.mkdir()
+    for what, sizes in (("uploads", [1] * (MOST_WAITING + 1)), ("bytes", [MOST_BYTES_WAITING // 2 + 1] * 2)):
+        own = jobs.Jobs(work, work)
+        kept = [own.new_upload(size) for size in sizes[:-1]]
+        try:
+            own.new_upload(sizes[-1])
+            yield f"too many {what}", "they were taken"
+        except WordsFault as fault:
+            yield f"too many {what}", None if str(fault).startswith(f"{what} that wait for a yes") else fault
+        own.forget_upload(kept[0].name)
+        yield f"behind a yes there is room for more {what}", None if own.new_upload(sizes[-1]).is_dir() else "there is none"
+    own = jobs.Jobs(work, work)
+    place = own.new_upload(1)
+    try:
+        for number in range(MOST_FILES + 1):
+            own.place_for(place, f"{number}.csv")
+        yield "too many files at a time", "they were taken"
+    except WordsFault as fault:
+        yield "too many files at a time", None if str(fault).startswith("files: found more than 1,000") else fault
+
+
+def outcome_attempts(work: Path) -> Attempts:
+    """Nobody makes a desk believe what came of a command by words that they choose."""
+    office = office_of(work)
     with RealDesk(office, work / "log", "--who", "ana") as desk:
         browser = Browser(desk).came_in()
         fields = browser.get("/release").fields("/release/yes")
-        late = {**fields, "why": CAME_LATE, "state": f"{'0' * 64}.1.1.{'0' * 16}", "yes": "1"}
+        late = {**fields, "why": CAME_LATE, "state": "0" * 64, "yes": "1"}
         told = browser.job(browser.post("/release/yes", late))
         yield "somebody who comes late", None if "Back to what was typed" in told.text else told.text[-900:]
         typed = {**fields, "why": "is asked for, and waits for", "once": os.urandom(8).hex(), "day": "2025-09-21"}
@@ -343,6 +389,7 @@ def page_attempts(work: Path) -> Attempts:
 
 PARTS = (
     ("pages and outcomes", page_attempts),
+    ("words as those of a command", outcome_attempts),
     ("modules where somebody works", working_folder_attempts),
     ("files that are sent to a desk", upload_attempts),
     ("tables that are sent to a desk", table_attempts),

@@ -20,7 +20,6 @@ from desk_in_browser import Server
 from desks import Answer, Fields, without_times
 from harness import LeftOut, Said
 
-from registry_tools.office import lock
 
 DAY, BEFORE = "2025-09-23", "2025-09-22"
 # So many closings are killed, and so many see their folder moved, each at another moment of the time that one takes.
@@ -94,9 +93,9 @@ class Folders:
         return states.get(str(plain(office)))
 
 
-def plain(office: Path) -> dict[str, bytes | None]:
+def plain(office: Path) -> dict[str, object]:
     """All files of a folder that say something of its days."""
-    return {name: content for name, content in without_times(office).items() if not name.startswith("index.sqlite")}
+    return without_times(office)
 
 
 def until(is_so: Callable[[], bool]) -> None:
@@ -137,7 +136,7 @@ def killed_closing(folders: Folders, whom: str, moment: float) -> object:
             os.kill(number, signal.SIGKILL)
     told = ana.ended(answer).text if whom == "the command" else ""
     server.end(signal.SIGKILL if whom != "the command" else signal.SIGINT)
-    until(lambda: not any(map(is_at_work, commands)) and not lock.is_held(office / lock.NAME))
+    until(lambda: not any(map(is_at_work, commands)))
     return said_later(folders, office, next((day for words, day in SAID.items() if words in told), None))
 
 

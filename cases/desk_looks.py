@@ -1,11 +1,10 @@
 """What a desk (`./day desk`) shows at a second look, and what comes twice: names and changes that are new since the
-first look, another year, an old index, uploads of one name, and a form that is sent twice at once. For
+first look, another year, uploads of one name, and a form that is sent twice at once. For
 cases/run-desk."""
 from __future__ import annotations
 
 import io
 import re
-import sqlite3
 import threading
 import time
 from collections.abc import Iterator
@@ -19,7 +18,6 @@ from sample_days import MONDAY_OF_TWO_PERIODS
 
 from registry_tools.desk.jobs import Job, Jobs, Started
 from registry_tools.desk.words import label
-from registry_tools.office.layout import LABELS
 from registry_tools.texts.checks import IN_FORMS
 
 WEEK, RULES = TOP / "examples" / "week", TOP / "tools" / "rules.py"
@@ -33,7 +31,7 @@ def second_look_trials(work: Path) -> Iterator[Told]:
     """All trials of this file."""
     work.mkdir()
     for trials in (
-        changed_trials, named_trials, year_trials, index_trials, found_trials, period_trials, undo_trials,
+        changed_trials, named_trials, year_trials, found_trials, period_trials, undo_trials,
         look_only_trials, upload_trials, at_once_trials, said_trials, reason_trials,
     ):  # fmt: skip
         yield from trials(work / trials.__name__)
@@ -82,7 +80,7 @@ def named_trials(work: Path) -> Iterator[Told]:
     ana = desk.person()
     for name, path in (("Kalkwerk", "/accounts"), ("Zement", "/month?year=2024"), ("Glas", f"/days/{MONDAY}")):
         before = ana.get(path)
-        (desk.office / LABELS).write_text(f"holder,5501,{name}\naccount,100210,{name} 1\n")
+        desks.name(desk.office, f"holder,5501,{name}", f"account,100210,{name} 1")
         wrong = has(ana.get(path), name)
         yield f"a name on {path}", wrong if name not in before.text else "it was there before"
     offered = ana.get("/hand-in?act=transfer")
@@ -97,20 +95,6 @@ def year_trials(work: Path) -> Iterator[Told]:
     shown = [ana.get(path).page.tables[-1].rows for path in paths]
     wanted = [ben.get(path).page.tables[-1].rows for path in reversed(paths)]
     yield "two years", differs(shown, wanted[::-1]) or (shown[0] == shown[1] and "they are the same")
-
-
-def index_trials(work: Path) -> Iterator[Told]:
-    """Who looks with an index of before is answered of all days."""
-    desk, own = desk_of(work)
-    path = desk.office / "index.sqlite"
-    before = path.read_bytes()
-    must_do(["hand-in", str(WEEK / "tuesday-work.csv"), *own], close(TUESDAY, own))
-    path.write_bytes(before)
-    found = desk.person().get("/find.csv?from=2025-01-01")
-    yield "the index stays as it is", differs(path.read_bytes(), before)
-    yield "an old index", differs(found.text, Said("find", "--csv", *own).output)
-    with sqlite3.connect(path) as database:
-        yield "a command brings it up", differs(database.execute("SELECT count(*) FROM filed").fetchone(), (2,))
 
 
 def found_trials(work: Path) -> Iterator[Told]:

@@ -8,6 +8,7 @@ import html
 import io
 import os
 import re
+from collections.abc import Iterator
 from dataclasses import dataclass, field
 from pathlib import Path
 from typing import Any, cast
@@ -15,10 +16,14 @@ from typing import Any, cast
 from harness import TOP, Said
 from reread import FORBIDDEN, Attributes, Page, named
 
+from registry_tools import steps
 from registry_tools.desk import app
-from registry_tools.desk.jobs import COMMAND, Started
 from registry_tools.desk.gate import Served
 from registry_tools.desk.heads import SECRET_HEADER, Proxy
+from registry_tools.desk.jobs import COMMAND, Started
+from registry_tools.store import file
+from registry_tools.store.events import LABELLED, MAY_LACK, Event, now
+from registry_tools.store.file import Store
 
 HOST, SECRET = "127.0.0.1:8424", "a-secret-of-these-trials-alone"
 # What no page says: commands, their options, and paths of the disk. Documents tell of commands; and what the trials
@@ -248,30 +253,56 @@ def uploads(files: dict[str, bytes]) -> Fields:
 
 
 def bytes_of(office: Path) -> dict[str, bytes | None]:
-    """All files of a folder, but who held its lock."""
+    """All files of a folder."""
     with contextlib.suppress(FileNotFoundError):
         return {
             str(path.relative_to(office)): path.read_bytes() if path.is_file() else None
             for path in sorted(office.rglob("*"))
-            if path.name != "lock"
         }
     return bytes_of(office)
 
 
+@contextlib.contextmanager
+def changing(office: Path) -> Iterator[Store]:
+    """A folder that somebody else changes in the block."""
+    with contextlib.closing(file.opened(office)) as store:
+        try:
+            with store.change():
+                yield store
+        finally:
+            # (signals wait behind the one step of a command, and this process goes on)
+            steps.let_go()
+
+
+def name(office: Path, *names: str) -> None:
+    """Gives names that no command would take, as a folder of an older version may have them."""
+    rows = "".join(f"{own},{now()},ana,a list\n" for own in names)
+    with changing(office) as store:
+        date = store.events.days[-1].date
+        store.add(Event(LABELLED, who="ana", date=date, why="a list", text=store.texts.put(rows.encode())))
+
+
 TIMES = re.compile(rb"[0-9]{4}-[0-9]{2}-[0-9]{2}T[0-9:]{8}Z")
+# What times make of an event.
+OF_TIMES = {"at", "before", "line"}
 
 
-def without_times(office: Path) -> dict[str, bytes | None]:
-    """All files of a folder but what times and names make of journals: their times, and the sums of lines."""
-    # (the index is made of the other files, and has the times of some)
-    found = {name: content for name, content in bytes_of(office).items() if name != "index.sqlite"}
-    return {name: content if not is_of_times(name) else plain(content or b"") for name, content in found.items()}
-
-
-def is_of_times(name: str) -> bool:
-    return name in ("journal.csv", "next/journal.csv", "next/looked.csv") or name.endswith("handed-in.csv")
-
-
-def plain(content: bytes) -> bytes:
-    """A journal without times and sums."""
-    return re.sub(rb"[0-9a-f]{64}", b"SUM", TIMES.sub(b"AT", content))
+def without_times(office: Path) -> dict[str, object]:
+    """All that a folder has, without the times of events and the sums that they make."""
+    with contextlib.closing(file.opened(office)) as store:
+        told = [{**vars(event), **dict.fromkeys(OF_TIMES)} for event in store.events.all]
+        found: dict[str, object] = {"office.ini": (office / "office.ini").read_bytes()}
+        for event in store.events.all:
+            for name in MAY_LACK:
+                sum_of_text = getattr(event, name)
+                content = store.texts.get(sum_of_text) if sum_of_text else b""
+                found[f"{event.id} {event.what} {name}"] = TIMES.sub(b"AT", content)
+        for own in told:
+            # (a text of names has times, and what was approved has the line of an event)
+            own.update(dict.fromkeys((*MAY_LACK, "sum"), None))
+            own.pop("values", None)
+        found |= {f"event {own['id']}": own for own in told}
+        for (name,) in store.db.execute("SELECT name FROM sqlite_schema WHERE type = 'table'").fetchall():
+            if name not in ("events", "texts"):
+                found[f"table {name}"] = store.db.execute(f'SELECT * FROM "{name}"').fetchall()
+    return found

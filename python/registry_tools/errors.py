@@ -1,7 +1,9 @@
 """What goes wrong: each ends a command with a line on standard error and an exit status."""
-from pathlib import Path
 from collections.abc import Collection, Iterable
+from pathlib import Path
 from typing import Any
+
+from registry_tools import voice
 
 FOUND, WORDS, FILE = 1, 2, 3
 # As in the program: standard output did not take all.
@@ -46,7 +48,8 @@ class FileFault(Exception):
 
     def without_way(self) -> str:
         """What is wrong, without the way out: who shows it otherwise has another one."""
-        place = f"{self.path}:{self.line}" if self.line else str(self.path)
+        path = voice.path(self.path)
+        place = f"{path}:{self.line}" if self.line else path
         if not self.expected:
             return f"{place}: {self.found}"
         field = f"{self.field}: " if self.field else ""

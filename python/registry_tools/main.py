@@ -10,7 +10,7 @@ import sys
 from pathlib import Path
 from typing import Protocol, cast
 
-from registry_tools import outcomes, steps, streams, tables
+from registry_tools import outcomes, steps, streams, tables, voice
 from registry_tools.errors import FILE, NOT_WRITTEN, FileFault, WordsFault
 from registry_tools.cli import named_day
 from registry_tools.options import Words, look_at_files
@@ -82,8 +82,9 @@ take all, or standard input is a folder. 130 somebody interrupted it.
 """
 
 
-# Behind this word stands a file into which a command writes what came of it.
-OUTCOME = "--outcome"
+# Behind this word stands the folder of a desk, in whose words all is told, and a file into which the command writes what
+# came of it.
+FOR_DESK = "--for-desk"
 
 
 class Command(Protocol):
@@ -147,7 +148,7 @@ def run(name: str, arguments: list[str]) -> int:
     except WordsFault as fault:
         progress.clear()
         outcomes.keep(fault)
-        print(f"./day {name}: {fault}", file=sys.stderr)
+        print(f"{voice.command(name)}: {fault}", file=sys.stderr)
         return fault.status
     except FileFault as fault:
         progress.clear()
@@ -176,11 +177,12 @@ def start() -> None:
 
 def main(arguments: list[str]) -> int:
     """Runs the words of a command line, and answers the exit status."""
-    if arguments[:1] == [OUTCOME] and arguments[2:]:
+    if arguments[:1] == [FOR_DESK] and arguments[3:]:
         # (whoever started the command reads what came of it, and not its sentences)
         outcomes.telling = outcomes.Telling()
-        status = main(arguments[2:])
-        outcomes.write(Path(arguments[1]), status)
+        with voice.speaking(voice.Desk(Path(arguments[1]))):
+            status = main(arguments[3:])
+        outcomes.write(Path(arguments[2]), status)
         return status
     if arguments[:1] == ["help"]:
         arguments = [*arguments[1:2], "--help"]

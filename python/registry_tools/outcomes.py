@@ -1,7 +1,7 @@
 """What came of a command, as data: for whoever has started it and shows it otherwise than a terminal does, as the desk
 does. What a terminal is told are sentences, which nobody has to read for this.
 
-`./day --outcome FILE COMMAND ..` writes it into FILE, as JSON.
+`./day --for-desk FOLDER FILE COMMAND ..` writes it into FILE, as JSON.
 """
 import enum
 import json

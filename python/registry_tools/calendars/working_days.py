@@ -6,7 +6,7 @@ import datetime
 import itertools
 from collections.abc import Sequence
 
-from registry_tools import tables
+from registry_tools import tables, voice
 from registry_tools.errors import FileFault
 from registry_tools.findings import Findings
 from registry_tools.notes import LEFT_OUT, Notes
@@ -20,7 +20,6 @@ MOST_TOLD = 5
 MONDAY_TO_FRIDAY = range(5)
 # (the window of a reversal ends; all other lags begin something)
 LAGS = {name.lower(): name for name in tables.LAGS if name != "REVERSAL"}
-MORE_WORK = "add work rows (./day next --work, ./day hand-in)"
 
 
 class Calendars:
@@ -143,18 +142,20 @@ def next_calendar(day: DayText, path: str | None, notes: Notes) -> list[datetime
     return every
 
 
-def look_at_calendar(head: rules.Day, book: dict[int, Block], notes: Notes, more: str = MORE_WORK) -> None:
+def look_at_calendar(head: rules.Day, book: dict[int, Block], notes: Notes, more: str = "") -> None:
     """Warns where the calendar is too short for what may be proposed or done on the day; `more` says how it gets more
     days."""
+    by_rows = f"add work rows ({voice.command('next', '--work')}, {voice.command('hand-in')})"
+    way = more or voice.either(by_rows, "add working days (Change, the rules)")
     last = head.working_days[-1] if head.working_days else None
     end = f"the calendar ends on {last}" if last else "the calendar is empty"
     lag, name = max((head.lags[key], name) for key, name in LAGS.items())
     if head.due(head.date, lag) is None:
-        notes.warn(f"{end}, before the due day of {head.date} with the lag {name} of {lag}: {more}")
+        notes.warn(f"{end}, before the due day of {head.date} with the lag {name} of {lag}: {way}")
     window = head.lags["reversal"]
     if head.due(head.date, window) is None:
         window_ends = f"the window REVERSAL of {window} working days from {head.date} is over"
-        notes.warn(f"{end}, before {window_ends}: {more}")
+        notes.warn(f"{end}, before {window_ends}: {way}")
     warn_of_late_begin(head, book, notes)
 
 

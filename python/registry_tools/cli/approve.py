@@ -12,7 +12,7 @@ system.
 """
 import argparse
 
-from registry_tools import streams
+from registry_tools import streams, voice
 from registry_tools.calendars import dates
 from registry_tools.cli import words
 from registry_tools.errors import WordsFault
@@ -34,7 +34,7 @@ def add_words(parser: argparse.ArgumentParser) -> None:
 
 def run(said: argparse.Namespace) -> int:
     """Runs the command, and answers the exit status."""
-    words.one_line("--who", said.who)
+    words.one_line("who", said.who)
     if not said.what:
         return show_waiting(said)
     if said.what[0] in OF_DATES:
@@ -63,8 +63,8 @@ def command_approved(said: argparse.Namespace) -> int:
     """Approves what somebody asked for."""
     command, *more = said.what
     if more or said.date is None:
-        raise WordsFault(f"name the day of what is approved: ./day approve {command} --date DATE")
-    date = dates.date_of("--date", said.date)
+        raise WordsFault(f"name the day of what is approved: {voice.command('approve', command, '--date', 'DATE')}")
+    date = dates.date_of(voice.option("date"), said.date)
     with folder.opened(said.office) as office:
         asked, by = approve_command(office, words.by(said, office.people), command, date)
     print(f"approved: {asked}, asked for by {by}: another login than {office.login} gives it again")

@@ -16,7 +16,7 @@ import argparse
 import sys
 from collections.abc import Iterator
 
-from registry_tools import streams, tables
+from registry_tools import streams, tables, voice
 from registry_tools.cli import words
 from registry_tools.cli.asked import number_of
 from registry_tools.errors import FOUND, WordsFault
@@ -70,22 +70,22 @@ def add_words(parser: argparse.ArgumentParser) -> None:
 def signed(option: str, word: str) -> tuple[bool, str]:
     """Whether a word adds something, and what."""
     if word[:1] not in ("+", "-"):
-        raise WordsFault(f"{option} {word} has to begin with + or -")
+        raise WordsFault(f"{voice.option(option, word)} has to begin with + or -")
     return word[0] == "+", word[1:]
 
 
 def account_edits(said: argparse.Namespace, number: int) -> Iterator[Edit]:
     """The differences of an account that the words ask for. Raises WordsFault."""
     for asked in said.user:
-        is_added, word = signed("--user", asked)
+        is_added, word = signed("user", asked)
         user, has_right, right = word.partition(":")
         if is_added != bool(has_right):
-            raise WordsFault(f"--user {asked}: +USER:RIGHT or -USER")
+            raise WordsFault(f"{voice.option('user', asked)}: +USER:RIGHT or -USER")
         yield Edit(number, ADD, ("user", user, right)) if is_added else Edit(number, DROP, ("user", user))
     for factor in said.correction:
         period, has_value, value = factor.partition(":")
         if not has_value:
-            raise WordsFault(f"--correction {factor}: PERIOD:VALUE")
+            raise WordsFault(f"{voice.option('correction', factor)}: PERIOD:VALUE")
         if period == FIRST_PERIOD:
             yield Edit(number, PUT, ("CORRECTION", value or "0"))
         else:
@@ -97,7 +97,7 @@ def account_edits(said: argparse.Namespace, number: int) -> Iterator[Edit]:
     for left_out in said.leave_out:
         tag, _, year = left_out.partition(":")
         if tag not in ("emissions", "figure"):
-            raise WordsFault(f"--leave-out {left_out}: emissions:YEAR or figure:YEAR")
+            raise WordsFault(f"{voice.option('leave-out', left_out)}: emissions:YEAR or figure:YEAR")
         yield Edit(number, DROP, (tag, year))
 
 
@@ -113,14 +113,14 @@ def opened(word: str) -> Edit:
     """The difference that makes an account. Raises WordsFault if the word names none."""
     number, *rest = word.split(",")
     if len(rest) != 2:
-        raise WordsFault(f"--open-account {word}: NUMBER,KIND,HOLDER")
+        raise WordsFault(f"{voice.option('open-account', word)}: NUMBER,KIND,HOLDER")
     return Edit(edits.account_number(number), OPEN, tuple(rest))
 
 
 def rule_edits(said: argparse.Namespace) -> Iterator[Edit]:
     """The differences of the rules that the words ask for. Raises WordsFault."""
     for admin in said.admin:
-        is_added, user = signed("--admin", admin)
+        is_added, user = signed("admin", admin)
         yield Edit(0, ADD if is_added else DROP, ("admin", user))
     for years in said.period:
         yield Edit(0, ADD, ("period", *years.split("-")))
@@ -129,10 +129,10 @@ def rule_edits(said: argparse.Namespace) -> Iterator[Edit]:
     for lag in said.lag:
         name, _, days = lag.partition(":")
         if name not in LAGS:
-            raise WordsFault(f"--lag {lag}: one of {', '.join(LAGS)}, with :DAYS")
+            raise WordsFault(f"{voice.option('lag', lag)}: one of {', '.join(LAGS)}, with :DAYS")
         yield Edit(0, PUT, (LAG, name, days))
     for allowed in said.surrender:
-        is_added, pair = signed("--surrender", allowed)
+        is_added, pair = signed("surrender", allowed)
         yield Edit(0, ADD if is_added else DROP, ("surrender", *pair.split(":")))
     yield from (Edit(0, ADD, ("work", day)) for day in said.working)
     yield from (Edit(0, DROP, ("work", day)) for day in said.not_working)
@@ -150,7 +150,8 @@ def edits_of(said: argparse.Namespace, names: Labels = Labels()) -> list[Edit]:
         if edit.words[0] != LAG:
             edits.must_be_readable(edit)
     if not made:
-        raise WordsFault("nothing to change: ./day change --help tells what can be")
+        way = f"{voice.command('change', '--help')} tells what can be"
+        raise WordsFault(f"nothing to change: {voice.either(way, 'the form says what is there')}")
     return made
 
 
@@ -164,14 +165,14 @@ def run(said: argparse.Namespace) -> int:
         raise WordsFault("--why is needed: it is kept with the change")
     if said.to is not None:
         raise WordsFault("--to is for --pairs: a folder keeps the change itself")
-    why = words.one_line("--why", said.why)
-    words.one_line("--who", said.who)
+    why = words.one_line("why", said.why)
+    words.one_line("who", said.who)
     with folder.opened(said.office) as office:
         asked = Change(tuple(edits_of(said, office.names())), why, said.yes)
         came = change(office, words.by(said, office.people), asked)
     print(streams.by_name("\n".join([*came.rows, *came.notes])))
     if came.part is None:
-        print(f"this would be changed for {came.date}; nothing is, without --yes")
+        print(f"this would be changed for {came.date}; nothing is, without {voice.option('yes')}")
         return FOUND
     print(f"handed in for {came.date}: {handed.places(came.part.start, came.part.end)}")
     print("".join(f"{line}\n" for line in came.waits), end="")

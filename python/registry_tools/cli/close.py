@@ -13,7 +13,7 @@ exit status: 0 if the day is filed, 1 if something is to be looked at first.
 """
 import argparse
 
-from registry_tools import streams
+from registry_tools import streams, voice
 from registry_tools.calendars import dates
 from registry_tools.cli import papers, words
 from registry_tools.errors import FOUND
@@ -22,7 +22,7 @@ from registry_tools.office.approvals import AskedFor
 from registry_tools.office.close import Close, Doubts, Outcome, close
 from registry_tools.second import rules
 from registry_tools.texts.books import Sums
-from registry_tools.texts.checks import checks
+from registry_tools.texts.checks import checks_told
 from registry_tools.texts.in_words import grouped
 
 EXAMPLE = "./day close --date 2025-09-22 --second --office out/office"
@@ -41,14 +41,14 @@ def add_words(parser: argparse.ArgumentParser) -> None:
 
 def run(said: argparse.Namespace) -> int:
     """Runs the command, and answers the exit status."""
-    words.one_line("--who", said.who)
-    date = None if said.date is None else dates.date_of("--date", said.date)
+    words.one_line("who", said.who)
+    date = None if said.date is None else dates.date_of(voice.option("date"), said.date)
     with folder.opened(said.office) as office:
         came = close(office, words.by(said, office.people), Close(date, said.second, said.verify, said.yes))
         if isinstance(came, AskedFor):
             return words.tell_asked_for(came)
         if isinstance(came, Doubts):
-            print(streams.by_name("\n".join([*came.lines, f"{came.date} is not filed, without --yes"])))
+            print(streams.by_name("\n".join([*came.lines, f"{came.date} is not filed, without {voice.option('yes')}"])))
             return FOUND
         # (it is another one on each machine, and the answer is not)
         words.to_errors(f"settled by {came.settled.engine}\nhead: {office.events.head}")
@@ -63,15 +63,20 @@ def summary(own: Outcome, by_second: bool) -> list[str]:
     records = "no records" if first > last else f"record {first}" if first == last else f"records {first} to {last}"
     how = " by the second answer" if by_second else ""
     lines = [*own.notes, f"{own.date} is settled{how} and filed: {records}, done {own.done}"]
-    lines += [f"refused {count}: {name}: {checks()[name].meaning}" for name, count in own.refused.items()]
+    lines += [f"refused {count}: {name}: {checks_told()[name].meaning}" for name, count in own.refused.items()]
     lines.append(f"waiting: {own.waiting}")
     for kind in rules.KINDS:
         pairs = zip(Sums._fields, own.before[kind], own.after[kind])
         lines.append(f"{kind}: {', '.join(f'{name} {before_and_after(old, new)}' for name, old, new in pairs)}")
-    if own.compliant:
-        year, share, count = own.compliant
-        lines.append(f"compliant for {year}: {share} of {count} accounts of operators and aircraft operators")
-    return lines
+    return [*lines, *compliant_told(own)]
+
+
+def compliant_told(own: Outcome) -> list[str]:
+    """How many operators are compliant, in a line, if a year is over."""
+    if own.compliant is None:
+        return []
+    year, share, count = own.compliant
+    return [f"compliant for {year}: {share} of {count} accounts of operators and aircraft operators"]
 
 
 def before_and_after(old: int, new: int) -> str:

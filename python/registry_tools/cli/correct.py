@@ -44,9 +44,9 @@ def add_words(parser: argparse.ArgumentParser) -> None:
 
 def run(said: argparse.Namespace) -> int:
     """Runs the command, and answers the exit status."""
-    why, date = words.one_line("--why", said.why), dates.date_of("DATE", said.date)
+    why, date = words.one_line("why", said.why), dates.date_of("DATE", said.date)
     without, files = tuple(dict.fromkeys(said.without)), words.given(said.files)
-    words.one_line("--who", said.who)
+    words.one_line("who", said.who)
     asked = Correct(date, why, without, files, said.second, said.verify, said.yes)
     with folder.opened(said.office) as office:
         try:

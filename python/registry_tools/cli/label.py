@@ -54,8 +54,8 @@ def run(said: argparse.Namespace) -> int:
         return 0
     if said.why is None:
         raise WordsFault("--why is needed: it is kept with the name")
-    why, asked = words.one_line("--why", said.why), [*asked_of(said)]
-    words.one_line("--who", said.who)
+    why, asked = words.one_line("why", said.why), [*asked_of(said)]
+    words.one_line("who", said.who)
     with folder.opened(said.office) as office:
         named = label(office, words.by(said, office.people), asked, why)
     print("\n".join([*first_of([*lines_of(named)], MOST_TOLD), *named.doubts]))

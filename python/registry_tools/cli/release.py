@@ -7,6 +7,7 @@ exit status: 0 if the day is released, 1 if --yes has to say so.
 """
 import argparse
 
+from registry_tools import voice
 from registry_tools.calendars import dates
 from registry_tools.cli import words
 from registry_tools.errors import FOUND
@@ -30,15 +31,15 @@ def add_words(parser: argparse.ArgumentParser) -> None:
 
 def run(said: argparse.Namespace) -> int:
     """Runs the command, and answers the exit status."""
-    why = words.one_line("--why", said.why)
-    words.one_line("--who", said.who)
+    why = words.one_line("why", said.why)
+    words.one_line("who", said.who)
     date = None if said.day is None else dates.date_of("DATE", said.day)
     with folder.opened(said.office) as office:
         came = release(office, words.by(said, office.people), Release(date, why, said.yes))
     if isinstance(came, AskedFor):
         return words.tell_asked_for(came)
     if isinstance(came, Unproved):
-        print(f"{LOOK}: {came.date} {came.doubt}\n{came.date} is not released, without --yes")
+        print(f"{LOOK}: {came.date} {came.doubt}\n{came.date} is not released, without {voice.option('yes')}")
         return FOUND
     words.to_errors(f"head: {came.event.line[:HEAD_DIGITS]}")
     print(f"{came.event.date} is released: it is not undone any more")

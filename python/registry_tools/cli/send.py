@@ -16,6 +16,7 @@ A day that is not released is told, since it may be undone behind its letters: -
 import argparse
 from dataclasses import replace
 
+from registry_tools import voice
 from registry_tools.cli import asked, named, words
 from registry_tools.errors import WordsFault
 from registry_tools.notes import LOOK
@@ -56,7 +57,7 @@ def run(said: argparse.Namespace) -> int:
 
 def send_of(said: argparse.Namespace, own: days.Days) -> Send:
     """Which packages the words ask for."""
-    begin, end = (asked.date_or(name, word, None) for name, word in (("--from", said.begin), ("--day", said.day)))
+    begin, end = (asked.date_or(name, word, None) for name, word in ((voice.option("from"), said.begin), (voice.option("day"), said.day)))
     return Send(*span_of(own.dates, begin, end), tuple(said.holder) if said.holder else None, said.pending)
 
 
@@ -64,7 +65,7 @@ def of_pairs(said: argparse.Namespace) -> Sent:
     """Makes the packages of pairs of paths."""
     own = days.of_pairs(days.pairs_named(said.pairs))
     wanted = send_of(said, own)
-    words.one_line("--who", said.who)
+    words.one_line("who", said.who)
     if said.release:
         raise WordsFault("--release is for a folder: paths are not released")
     return send(own, named.labels_of(said), wanted, said.folder, lambda: None)
@@ -85,8 +86,8 @@ def of_folder(said: argparse.Namespace) -> Sent:
         if not is_released and said.release:
             must_be_proved(day)
         elif not is_released:
-            released = "it may be undone behind its letters; --release releases it with them"
-            words.to_errors(f"{LOOK}: {day.date} is not released: {released}")
+            way = voice.either("--release releases it with them", "its box on the page Send releases it")
+            words.to_errors(f"{LOOK}: {day.date} is not released: it may be undone behind its letters; {way}")
         # (all letters are there, and get their names behind it: no day is taken back behind its letters)
         return send(own, names, wanted, said.folder, lambda: keep(said, office, by, day))
 
@@ -110,7 +111,7 @@ def must_be_proved(day: Event) -> None:
     """Ends the command if a day is to be released of which nothing proves the report."""
     doubt = release.doubt_of(day)
     if doubt:
-        raise WordsFault(f"--release: {day.date} {doubt}; ./day release {day.date} --yes releases it")
+        raise WordsFault(f"{voice.option('release')}: {day.date} {doubt}; {voice.command('release', day.date, '--yes')} releases it")
 
 
 def must_still_be_there(office: Office, day: Event) -> None:

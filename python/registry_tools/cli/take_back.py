@@ -35,10 +35,10 @@ def add_words(parser: argparse.ArgumentParser) -> None:
 
 def run(said: argparse.Namespace) -> int:
     """Runs the command, and answers the exit status."""
-    asked = TakeBack(words.one_line("--why", said.why), tuple(said.places), said.file, said.handed_by)
+    asked = TakeBack(words.one_line("why", said.why), tuple(said.places), said.file, said.handed_by)
     if not asked.places and asked.file is None and asked.handed_by is None:
         raise WordsFault("name what is taken back: a PLACE, --file or --handed-by")
-    words.one_line("--who", said.who)
+    words.one_line("who", said.who)
     with folder.opened(said.office) as office:
         items = take_back(office, words.by(said, office.people), asked)
     told = [f"taken back: place {item.place}: {' '.join(item.rows)}" for item in items]

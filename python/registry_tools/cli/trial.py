@@ -9,7 +9,7 @@ exit status: 0 if everything would be done or wait, 1 if something would be refu
 """
 import argparse
 
-from registry_tools import streams
+from registry_tools import streams, voice
 from registry_tools.calendars import dates
 from registry_tools.cli import words
 from registry_tools.errors import FOUND
@@ -29,7 +29,7 @@ def add_words(parser: argparse.ArgumentParser) -> None:
 
 def run(said: argparse.Namespace) -> int:
     """Runs the command, and answers the exit status."""
-    date = None if said.date is None else dates.date_of("--date", said.date)
+    date = None if said.date is None else dates.date_of(voice.option("date"), said.date)
     with folder.opened(said.office) as office:
         tried = try_next(office, date)
     done = [own for own in tried.looked if own.outcome == "done"]

@@ -8,6 +8,7 @@ A day that was released is not taken back: what others know of stays. Then anoth
 """
 import argparse
 
+from registry_tools import voice
 from registry_tools.calendars import dates
 from registry_tools.cli import papers, words
 from registry_tools.office import folder
@@ -29,10 +30,10 @@ def add_words(parser: argparse.ArgumentParser) -> None:
 
 def run(said: argparse.Namespace) -> int:
     """Runs the command, and answers the exit status."""
-    why = words.one_line("--why", said.why)
-    words.one_line("--who", said.who)
+    why = words.one_line("why", said.why)
+    words.one_line("who", said.who)
     date = None if said.day is None else dates.date_of("DATE", said.day)
-    meant = None if said.date is None else dates.date_of("--date", said.date)
+    meant = None if said.date is None else dates.date_of(voice.option("date"), said.date)
     with folder.opened(said.office) as office:
         came = undo(office, words.by(said, office.people), Undo(date, why, meant))
         if isinstance(came, AskedFor):

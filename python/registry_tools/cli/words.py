@@ -6,7 +6,7 @@ import os
 import sys
 from collections.abc import Sequence
 
-from registry_tools import outcomes
+from registry_tools import outcomes, voice
 from registry_tools.errors import FOUND, WordsFault
 from registry_tools.office import people
 from registry_tools.office.approvals import AskedFor
@@ -52,14 +52,14 @@ def add_day(parser: argparse.ArgumentParser, what: str) -> None:
 def one_line(name: str, word: str) -> str:
     """A word that is kept in a line of what was done."""
     if not word.strip() or any(not letter.isprintable() for letter in word):
-        raise WordsFault(f"{name} has to be some words in one line")
+        raise WordsFault(f"{voice.option(name)} has to be some words in one line")
     return word
 
 
 def by(said: argparse.Namespace, known: People) -> By:
     """By whom the command is given, of the people that a folder knows: by the login of the process, or the one for
     which it may speak."""
-    return By(people.login_for(known, said.whom), one_line("--who", said.who), said.seen)
+    return By(people.login_for(known, said.whom), one_line("who", said.who), said.seen)
 
 
 def add_named(parser: argparse.ArgumentParser) -> None:

@@ -1,15 +1,18 @@
 """The desk as a Flask application: its addresses, and what its pages have in common."""
+import contextlib
 import datetime
 import functools
 import secrets
+from collections.abc import Callable
 from pathlib import Path
-from typing import Any, Callable
+from typing import Any
 
 import flask
 from werkzeug import formparser
 from werkzeug.exceptions import HTTPException, NotFound, RequestEntityTooLarge
 from werkzeug.wrappers import Response
 
+from registry_tools import voice
 from registry_tools.desk import coming, gate, pages, posts, questions, shown, words
 from registry_tools.desk.gate import Served
 from registry_tools.errors import FileFault, WordsFault
@@ -18,7 +21,7 @@ from registry_tools.pages.rulebook import FORMATS, RULES
 from registry_tools.pages.settled import long_date
 from registry_tools.second import faults
 from registry_tools.sheets import limits
-from registry_tools.texts.checks import checks
+from registry_tools.texts.checks import form_checks
 from registry_tools.texts.in_words import grouped
 
 # What is sent at once is at most as large as one file may be that is handed in, and a form without files much smaller.
@@ -28,6 +31,8 @@ SECTIONS = {
     "/days": "Days", "/accounts": "Accounts", "/compliance": "Compliance", "/due": "Due", "/month": "Months",
     "/find": "Find", "/names": "Names", "/journal": "Journal", "/audit": "Audit", "/send": "Send",
 }  # fmt: skip
+# What tries a change, and takes it back: it is of no moment before.
+OF_TRIALS = {"/undo"}
 # What a desk that only looks has no use for.
 OF_CHANGES = {"/hand-in", "/change", "/close"}
 GET: dict[str, Callable[..., Any]] = {
@@ -43,9 +48,8 @@ GET: dict[str, Callable[..., Any]] = {
 }  # fmt: skip
 POST: dict[str, Callable[..., Any]] = {
     "/name": posts.name, "/hand-in/look": posts.look, "/hand-in/take": posts.take, "/next/take-back": posts.take_back,
-    # (a look is kept, so that the next one tells what is new; and any command puts right what another one left)
+    # (a look is kept, so that the next one tells what is new)
     "/next/seen": functools.partial(posts.begin, command="try"),
-    "/put-right": functools.partial(posts.begin, command="status"),
     "/change/look": posts.look_at_change, "/change/make": posts.make_change, "/close/settle": posts.settle,
     "/undo/yes": posts.undo, "/release/yes": posts.release, "/names/look": posts.look_at_names,
     "/names/give": posts.give_names, "/approve": posts.approve, "/audit/begin": posts.audit, "/send/begin": posts.send,
@@ -64,11 +68,15 @@ def make(served: Served) -> flask.Flask:
     setattr(formparser, "RequestEntityTooLarge", RequestEntityTooLarge)
     # (cookies know no ports: another desk has another one)
     app.config.update(
-        PATHS=(str(served.path), str(served.jobs.private)), SECRET_KEY=secrets.token_bytes(32),
+        SECRET_KEY=secrets.token_bytes(32),
         MAX_CONTENT_LENGTH=MOST_BYTES, SESSION_COOKIE_NAME=f"desk-{served.host.rpartition(':')[2]}",
         SESSION_COOKIE_HTTPONLY=True, SESSION_COOKIE_SAMESITE="Strict",
     )  # fmt: skip
     app.session_interface = gate.Sessions(served.proxy)
+    # (what is told on a page is told in the words of the desk)
+    desk = voice.Desk(served.path)
+    app.before_request(lambda: flask.g.setdefault("voice", contextlib.ExitStack()).enter_context(voice.speaking(desk)))
+    app.teardown_request(lambda _: flask.g.pop("voice", contextlib.ExitStack()).close())
     # (the gate stands before all pages, also those that are not there)
     app.before_request(functools.partial(gate.let_in, served))
     app.after_request(gate.with_headers)
@@ -87,9 +95,13 @@ def make(served: Served) -> flask.Flask:
 
 def shown_now(served: Served, view: Callable[..., Any], **more: Any) -> Any:
     """What a view shows of the folder as it is at one moment."""
-    # (what a change of this page builds on is kept before anything is read)
-    flask.g.state = served.reading.state()
-    return served.reading.whole(functools.partial(view, served, **more))
+    # (what a change of this page builds on is of the same moment)
+    if flask.request.path in OF_TRIALS:
+        flask.g.state = served.reading.state()
+        return view(served, **more)
+    with served.reading.moment():
+        flask.g.state = served.reading.state()
+        return view(served, **more)
 
 
 def changed(served: Served, view: Callable[..., Any]) -> Any:
@@ -124,8 +136,8 @@ def dress(app: flask.Flask, served: Served) -> None:
         sections=sections, is_look=served.is_look, of_looking=OF_LOOKING, office=served.path.name,
         token=lambda: flask.session["token"], once=lambda: secrets.token_hex(8), state=lambda: flask.g.state,
         who=lambda: gate.known_name(served), says_name=not served.who and not served.proxy,
-        may_not=lambda: gate.may_not(served), has_leftovers=served.reading.has_leftovers, apart=beside.apart,
-        table=shown.sorted_table, acts=faults.ACT_WORDS, meaning=lambda name: checks()[name].meaning,
+        may_not=lambda: gate.may_not(served), apart=beside.apart, time=voice.time,
+        table=shown.sorted_table, acts=faults.ACT_WORDS, meaning=lambda name: form_checks()[name].meaning,
     )  # fmt: skip
     app.jinja_env.filters.update(
         grouped=grouped, label=words.label, date=long_date,

@@ -1,18 +1,19 @@
 """The page of what is due: as a table, and as a file or a calendar for other programs."""
 import datetime
 import functools
-from typing import Any, Sequence
+from collections.abc import Sequence
+from typing import Any
 
 import flask
 from werkzeug.wrappers import Response
 
+from registry_tools import tables, voice
 from registry_tools.calendars.dates import date_of
 from registry_tools.desk import gate
 from registry_tools.desk.gate import Served
 from registry_tools.desk.questions import download, file_of
 from registry_tools.desk.reading import Reading
 from registry_tools.desk.shown import asked, show_page
-from registry_tools.office import folder
 from registry_tools.pages.html import link, tag
 from registry_tools.questions import due
 from registry_tools.sheets.writing import Written
@@ -39,8 +40,8 @@ def found_until(own: Reading) -> tuple[list[due.Due], datetime.date]:
     """What is due up to the day of the address, or as many days ahead as the office says; and that day."""
     office, word = own.office(), asked("until")
     until = date_of("the last day", word) if word else due.last_shown(office)
-    state = f"{folder.state_of(office)} {own.state_of_names()} {datetime.date.today()}"
-    return own.once(("due", until), state, lambda: due.due_until(office, until)), until
+    state = f"{own.all_states()} {datetime.date.today()}"
+    return own.once(("due", until, voice.is_desk()), state, lambda: due.due_until(office, until)), until
 
 
 def cells_of(own: Reading, row: Sequence[Any]) -> Sequence[Any]:
@@ -52,8 +53,10 @@ def cells_of(own: Reading, row: Sequence[Any]) -> Sequence[Any]:
 
 def as_file(served: Served, kind: str) -> Response:
     """What is due as a table with all columns of ./day due, or as a calendar."""
-    found, until = found_until(served.reading)
+    # (other programs get what the command gives them)
+    with voice.speaking(voice.TERMINAL):
+        found, until = found_until(served.reading)
     if kind == "ics":
         return download(due.as_calendar(found, until).encode(), CALENDAR, "due.ics")
     texts = (["" if cell is None else str(cell) for cell in own.cells()] for own in found)
-    return file_of(served, kind, Written("due", [due.COLUMNS.names, *texts]))
+    return file_of(served, kind, Written("due", [tables.COLUMNS["due"].names, *texts]))

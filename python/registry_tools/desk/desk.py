@@ -21,10 +21,11 @@ import sys
 from pathlib import Path
 
 from registry_tools import isolated, streams
+from registry_tools.cli import words
 from registry_tools.desk import heads, log
 from registry_tools.desk.heads import Proxy
 from registry_tools.errors import WordsFault
-from registry_tools.office import folder, words
+from registry_tools.office import folder
 from registry_tools.progress import progress
 
 EXAMPLE = "./day desk --office out/office"
@@ -49,7 +50,7 @@ def add_words(parser: argparse.ArgumentParser) -> None:
 def run(said: argparse.Namespace) -> int:
     """Runs the command, and answers the exit status."""
     path = folder.folder_of(said.office).resolve()
-    who = words.one_line("--who", said.who) if said.who is not None else None
+    who = words.one_line("who", said.who) if said.who is not None else None
     if who is not None and said.proxy_user is not None:
         raise WordsFault("--proxy-user stands in place of --who")
     if said.proxy_user is not None and not re.fullmatch("[A-Za-z0-9-]+", said.proxy_user):

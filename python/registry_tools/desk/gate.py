@@ -15,9 +15,10 @@ from registry_tools.desk.heads import LONGEST_NAME, Head, Proxy, Refusal
 from registry_tools.desk.jobs import Jobs
 from registry_tools.desk.reading import Reading
 from registry_tools.desk.shown import show_page
+from registry_tools.cli.words import one_line
 from registry_tools.errors import FileFault, RightsFault, WordsFault
 from registry_tools.office import people
-from registry_tools.office.words import one_line
+from registry_tools.office.office import By
 
 # Nothing is fetched from elsewhere, no script runs, no other page has one of the desk in itself, and nobody keeps one.
 HEADERS = {
@@ -29,6 +30,8 @@ HEADERS = {
     "Cross-Origin-Resource-Policy": "same-origin",
 }  # fmt: skip
 NO_DAY = "No day is settled yet: Today leads to the first one."
+# Who looks, and has not said a name yet.
+NOBODY = "nobody yet"
 # The command of each page that asks for a yes.
 COMMANDS = {
     "/hand-in": "hand-in", "/change": "change", "/names": "label", "/close": "close", "/undo": "undo",
@@ -136,12 +139,22 @@ def known_name(served: Served) -> str:
     return name_of_proxy(served) if served.proxy is not None else served.who or str(flask.session.get("who", ""))
 
 
-def speaks_for(served: Served, who: str) -> list[str]:
-    """The words by which a command takes the name of a proxy as the login that gives it: if office.ini lets the login
-    of this desk speak for others. A name that somebody typed is no login."""
-    own = served.reading.office().people.named.get(people.system_login())
-    is_let = served.proxy is not None and own is not None and people.PROXY in own.rights
-    return [f"--for={who}"] if is_let else []
+def speaks_for(served: Served, who: str) -> str | None:
+    """The login that the proxy names, if office.ini lets the login of this desk speak for others. A name that somebody
+    typed is no login."""
+    is_let = served.proxy is not None and served.reading.office().people.may_speak(people.system_login())
+    return who if is_let else None
+
+
+def by(served: Served, seen: str | None = None) -> By:
+    """By whom something is looked at before it is done."""
+    who = known_name(served)
+    return By(login_of(served, who), who or NOBODY, seen)
+
+
+def login_of(served: Served, who: str) -> str:
+    """The login by which somebody works."""
+    return people.login_for(served.reading.office().people, speaks_for(served, who))
 
 
 def may_not(served: Served) -> str:
@@ -150,8 +163,7 @@ def may_not(served: Served) -> str:
     if command is None or not who or served.is_look:
         return ""
     try:
-        login = f"{people.system_login()}:{who}" if speaks_for(served, who) else people.system_login()
-        people.must_be_allowed(served.reading.office().people, login, command)
+        people.must_be_allowed(served.reading.office().people, login_of(served, who), command)
     except RightsFault as fault:
         return fault.why
     except WordsFault as fault:

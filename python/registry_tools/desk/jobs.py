@@ -18,7 +18,7 @@ from typing import Callable, Iterator
 
 from registry_tools import isolated, main, outcomes
 from registry_tools.errors import FOUND, WordsFault
-from registry_tools.office.given import Given
+from registry_tools.office.incoming import Given
 from registry_tools.outcomes import Kind
 from registry_tools.progress import ASKED
 from registry_tools.streams import names
@@ -26,6 +26,8 @@ from registry_tools.streams import names
 COMMAND = isolated.command_by()
 # So many answers are kept, and so long (in seconds) an upload waits for its yes.
 MOST_JOBS, UPLOAD_AGE = 200, 3_600
+# So many uploads wait at a time, of so many bytes in all, and each has so many files at most.
+MOST_WAITING, MOST_BYTES_WAITING, MOST_FILES = 100, 1 << 30, 1_000
 # So long the desk waits for the commands at its end, before it ends them otherwise.
 MOST_SECONDS = 60.0
 # Where a command tells what came of it.
@@ -123,6 +125,8 @@ class Jobs:
         self.jobs: dict[str, Job] = {}
         # The files of uploads in the order in which they came: it decides who is first.
         self.uploads: dict[str, list[Given]] = {}
+        # How many bytes came with each.
+        self.sizes: dict[str, int] = {}
 
     def start(self, number: str, command: str, words: list[str], seen: str, back: str, makes: bool) -> Job:
         """Starts a command, or gives the one that this form has started. It works in a folder of its own, where nothing
@@ -132,7 +136,7 @@ class Jobs:
                 return self.jobs[number]
             out = Path(tempfile.mkdtemp(prefix="job-", dir=self.private))
             own = [MADE] if makes else []
-            told = [main.OUTCOME, str(out / OUTCOME)]
+            told = [main.FOR_DESK, str(self.office), str(out / OUTCOME)]
             line = [*COMMAND, names["./day"], *told, command, *own, "--office", str(self.office), *words]
             job = Job(number, command, words, out, self.begin(line, out, out), seen, back)
             self.jobs[number] = job
@@ -159,20 +163,28 @@ class Jobs:
 
     # Uploads.
 
-    def new_upload(self) -> Path:
-        """A folder for files that somebody looks at before they are taken. Those that waited too long are removed."""
-        for name in [*self.uploads]:
-            old = self.private / name
-            if not old.is_dir() or old.stat().st_mtime < time.time() - UPLOAD_AGE:
-                self.forget_upload(name)
-        path = self.private / secrets.token_hex(16)
-        path.mkdir(mode=0o700)
-        self.uploads[path.name] = []
+    def new_upload(self, size: int) -> Path:
+        """A folder for files of so many bytes that somebody looks at before they are taken. Those that waited too long
+        are removed. Raises WordsFault if too much waits."""
+        with self.lock:
+            for name in [*self.uploads]:
+                old = self.private / name
+                if not old.is_dir() or old.stat().st_mtime < time.time() - UPLOAD_AGE:
+                    self.forget_upload(name)
+            waiting = sum(self.sizes.values())
+            if len(self.uploads) >= MOST_WAITING:
+                raise too_many("uploads", len(self.uploads), MOST_WAITING)
+            if waiting + size > MOST_BYTES_WAITING:
+                raise too_many("bytes", waiting, MOST_BYTES_WAITING)
+            path = self.private / secrets.token_hex(16)
+            path.mkdir(mode=0o700)
+            self.uploads[path.name], self.sizes[path.name] = [], size
         return path
 
     def forget_upload(self, name: str) -> None:
         """Takes an upload away."""
         self.uploads.pop(name, None)
+        self.sizes.pop(name, None)
         shutil.rmtree(self.private / name, ignore_errors=True)
 
     def place_for(self, folder: Path, name: str) -> Path:
@@ -181,6 +193,8 @@ class Jobs:
         plain = "".join(" " if letter in "/\\" or not letter.isprintable() else letter for letter in name)
         plain = plain.strip(" .")[-LONGEST_NAME:].strip(" .") or "file"
         files = self.uploads[folder.name]
+        if len(files) >= MOST_FILES:
+            raise WordsFault(f"files: found more than {MOST_FILES:,}; expected at most {MOST_FILES:,} at a time")
         free = plain if plain not in (own.name for own in files) else f"{len(files)} {plain}"
         path = folder / f"upload-{len(files) + 1}"
         files.append(Given(str(path), free))
@@ -191,6 +205,12 @@ class Jobs:
         if name not in self.uploads:
             raise WordsFault("the files are not here any more: choose them again")
         return [*self.uploads[name]]
+
+
+def too_many(what: str, found: int, most: int) -> WordsFault:
+    """More waits for a yes than may wait."""
+    way = f"hand in or take what waits: it goes by itself after {UPLOAD_AGE // 60} minutes"
+    return WordsFault(f"{what} that wait for a yes at this desk: found {found:,}; expected at most {most:,}; {way}")
 
 
 @contextlib.contextmanager

@@ -1,33 +1,31 @@
 """What would come of files, of changes by hand, of names and of taking a day back, before somebody says yes: by the
-functions behind the commands, in a copy of next/."""
-import contextlib
+functions behind the commands, whose change of the folder is taken back at once."""
 import datetime
 import functools
-import re
-import shutil
-import tempfile
 from dataclasses import dataclass, field
-from pathlib import Path
-from typing import Any, Iterator
+from typing import Any
 
+from registry_tools.cli import change as words_of_change, label as words_of_names
 from registry_tools.desk.reading import Reading
 from registry_tools.desk.words import label
 from registry_tools.errors import FileFault, WordsFault
-from registry_tools.office import composing, hand_in, handed, handed_journal, label as labelling, trial, undo
-from registry_tools.office.changes import change
-from registry_tools.office.folder import Office
-from registry_tools.office.given import Given
-from registry_tools.office.incoming import Forms
-from registry_tools.office.journal import Event
+from registry_tools.office import approvals, change, hand_in, handed, label as labelling, trial, undo
+from registry_tools.office.change import Change, Changed
+from registry_tools.office.hand_in import HandIn
+from registry_tools.office.handed import HandedIn, Part
+from registry_tools.office.incoming import Forms, Given, TableFault
+from registry_tools.office.office import By
+from registry_tools.office.waits import waits_of
 from registry_tools.options import TellingWords
 from registry_tools.pages.beside import item_in_words, side_by_side
-from registry_tools.sheets.importing import OTHER_FORM
 from registry_tools.texts.in_words import instruction_in_words
-from registry_tools.texts.pending import read_waits
 
-# What an instruction that was typed is called, and a cell of it in a message.
+# What an instruction that was typed is called.
 TYPED = "typed at the desk.csv"
-CELL_TYPED = re.compile("(?:.*/)?" + re.escape(TYPED) + ", cell [A-Z]+2: ([a-z]+[2-8]?)")
+# So many rows are shown of a file without instructions, and so many cells that are wrong are told.
+MOST_ROWS, MOST_TOLD = 5, 100
+# A change that is only looked at has no reason yet.
+NO_REASON = "no reason yet"
 Rows = list[tuple[Any, ...]]
 
 
@@ -45,85 +43,74 @@ class Look:
     rows: list[tuple[str, list[str]]] = field(default_factory=list)
 
 
-@contextlib.contextmanager
-def copy_of_next(own: Reading) -> Iterator[tuple[Office, handed.HandedIn]]:
-    """The folder with a copy of what was handed in, into which a look may put something."""
-    office = own.office()
-    with tempfile.TemporaryDirectory(dir=own.private) as place:
-        shutil.copytree(office.next_folder, place, dirs_exist_ok=True)
-        there = handed_journal.read(Path(place))
-        try:
-            yield office, there
-        except FileFault as fault:
-            # (nobody finds the copy later)
-            fault.path = str(fault.path).replace(f"{place}/", "next/")
-            raise
-
-
-def look_at_incoming(own: Reading, files: list[Given], again: list[tuple[int, int]], dates: str = "") -> Look:
+def look_at_incoming(own: Reading, by: By, files: list[Given], again: list[tuple[int, int]], dates: str = "") -> Look:
     """What would come of files, with the rows, by file and line, that are meant once more."""
-    words, forms = [f"{files[place].path}:{line}" for place, line in again], Forms(dates=dates or None)
+    words = tuple(f"{files[place].path}:{line}" for place, line in again)
+    asked = HandIn(tuple(files), words, Forms(dates=dates or None))
     try:
-        with copy_of_next(own) as (office, there):
-            added = hand_in.look_at(office, there, files, "nobody yet", words, forms)
-            looked = [tried for tried in added.looked if tried.place in added.places()]
-            return Look([], None, added, looked, [(i.name, first_rows(there.folder / i.file)) for i in added.parts])
+        with own.anew() as office, office.trying("hand-in", by):
+            added = hand_in.added(office, asked)
+            there = handed.for_the_next_day(office.store)
+            rows = [(part.name, there.rows(part).rows[:MOST_ROWS]) for part in added.parts]
+        looked = [tried for tried in added.looked if tried.place in added.places()]
+        return Look([], None, added, looked, rows)
     except hand_in.HadFault as fault:
         # (how it may come once more is told by a button)
         return Look([fault.without_way()], (files.index(fault.of), fault.at))
+    except TableFault as fault:
+        return Look(faults_of_table(fault, is_typed(files)))
     except (FileFault, WordsFault) as fault:
-        return Look(faults_in_words(str(fault)))
+        return Look([str(fault)])
 
 
-def faults_in_words(told: str) -> list[str]:
-    """What is wrong, a line each. Of an instruction that was typed with the labels of its fields, and without what is
-    said of files."""
-    own = CELL_TYPED.sub(lambda found: label(found[1]), told)
-    lines = own.split("\n")
-    return lines if own == told else [line.replace(f"; {OTHER_FORM}", "") for line in lines if "cells that" not in line]
+def is_typed(files: list[Given]) -> bool:
+    """Whether an instruction was typed: then no file was chosen."""
+    return [own.named for own in files] == [TYPED]
 
 
-def look_at_change(own: Reading, asked: list[str]) -> change.Difference:
-    """What a change by hand would make of the next day."""
+def faults_of_table(fault: TableFault, is_of_form: bool) -> list[str]:
+    """What is wrong with the cells of a table, a line each; of an instruction that was typed with the labels of its
+    fields."""
+    if not is_of_form:
+        return str(fault).split("\n")
+    return [f"{label(own.field)}: found {own.found}; expected {own.expected}" for own in fault.wrong[:MOST_TOLD]]
+
+
+def look_at_change(own: Reading, by: By, asked: list[str]) -> Changed:
+    """What a change by hand would make of the next day, by the words of the command."""
     parser = TellingWords()
-    change.add_words(parser)
-    said, next_day = parser.parse_args(asked), own.next_day()
-    with copy_of_next(own) as (office, there):
-        composing.last_day(office)
-        made = change.edits_of(said, own.text_of_next().head.lags)
-        return change.look_at(there, next_day, office, made, "nobody yet", "no reason yet")
+    words_of_change.add_words(parser)
+    edits = words_of_change.edits_of(parser.parse_args(asked))
+    with own.anew() as office:
+        return change.change(office, by, Change(tuple(edits), NO_REASON))
 
 
-def look_at_waiting(own: Reading, office: Office, handed_in: handed.HandedIn, part: handed.Part | None) -> Rows:
+def look_at_waiting(own: Reading, handed_in: HandedIn, part: Part | None) -> Rows:
     """What a change that waits for another login makes of the next day: what was there, and what it becomes."""
     if part is None:
         return []
-    look = functools.partial(change.look_at_waiting, office, handed_in, part)
+    look = functools.partial(change.look_at_waiting, own.office(), handed_in, part)
     return [*side_by_side(own.of_next(f"place {part.start}", own.dates()[0], look))]
 
 
-def look_at_undo(own: Reading, last: Event, date: datetime.date) -> tuple[Rows, Rows]:
+def look_at_undo(own: Reading, by: By, last: datetime.date, date: datetime.date) -> tuple[Rows, Rows]:
     """What would be handed in again, and what would wait again, if the last day was taken back for this day."""
-    with tempfile.TemporaryDirectory(dir=own.private) as place:
-        there, _ = undo.put_again(own.office(), last, date, Path(place), last.line)
+    with own.anew() as office, office.trying("undo", by):
+        filed = undo.last_of(office, last)
+        undo.taken_back(office, filed, date, NO_REASON, "")
+        there = approvals.handed_in_of(office)
         rows: Rows = [(i.place, item_in_words(i), i.part.name, i.part.who) for i in there.items(*handed.KINDS)]
-        path = Path(place) / handed.WAITS
-        waits = read_waits(str(path)) if path.exists() else []
-        return rows, [(str(w.due or ""), w.record, instruction_in_words(w.instruction)) for w in waits]
+        waits = [(str(w.due or ""), w.record, instruction_in_words(w.instruction)) for w in waits_of(office)]
+        return rows, [*waits]
 
 
 def look_at_names(own: Reading, asked: list[str]) -> tuple[Rows, list[str]]:
-    """What names would be new, with what they were, and what may be a slip. Raises what the command does."""
+    """What names would be new, with what they were, and what may be a slip, by the words of the command. Raises what
+    the command does."""
     parser = TellingWords()
-    labelling.add_words(parser)
+    words_of_names.add_words(parser)
     said, before = parser.parse_args(asked), own.names()
-    labelling.must_fit(said)
-    new = labelling.new_of([*labelling.asked_of(said)], before)
+    words_of_names.must_fit(said)
+    new = labelling.new_of([*words_of_names.asked_of(said)], before)
     rows: Rows = [(f"{name.kind} {name.number}", before.name_of(*name[:2]), name.name) for name in new]
     return rows, [*labelling.doubts_of(own.office(), new, before)]
-
-
-def first_rows(path: Path, most: int = 5) -> list[str]:
-    """The first lines of a file."""
-    with open(path, encoding="utf-8", errors="surrogateescape") as stream:
-        return [line.rstrip("\n") for _, line in zip(range(most), stream)]

@@ -1,22 +1,24 @@
 """The pages of the day's work: today, what is handed in, the next day, a change by hand, closing, and the days."""
 import contextlib
 import itertools
-import re
+import os
 from collections import Counter
-from typing import Any, Callable, Iterator, Mapping, Sequence
+from collections.abc import Callable, Iterator, Mapping, Sequence
+from typing import Any
 
 import flask
 from werkzeug.exceptions import NotFound
 
+from registry_tools import voice
 from registry_tools.calendars.dates import date_of
+from registry_tools.cli.close import compliant_told
 from registry_tools.desk import forms, gate, looks, shown
 from registry_tools.desk.gate import Served
 from registry_tools.desk.reading import Reading
 from registry_tools.desk.shown import asked, number_asked, row_of_taken, show_page, sorted_table
 from registry_tools.errors import FileFault, WordsFault
 from registry_tools.notes import LOOK
-from registry_tools.office import approvals, awaited, handed, release as releasing, taken, undo as undoing
-from registry_tools.pairs.settling import BY_RUN, settler_in_words
+from registry_tools.office import approvals, handed, release as releasing, undo as undoing
 from registry_tools.office.trial import Looked, whys
 from registry_tools.office.waits import waits_of
 from registry_tools.pages import summary
@@ -26,7 +28,8 @@ from registry_tools.pages.plan import plan_parts
 from registry_tools.pages.settled import (
     OUTCOMES, Settled, by_hand_parts, kind_of, long_date, outcome_in_words, record_in_words,
 )  # fmt: skip
-from registry_tools.questions import due
+from registry_tools.pairs import settling
+from registry_tools.questions import due, taken
 from registry_tools.second import faults, rules
 from registry_tools.sheets import form
 from registry_tools.texts.books import Sums, sums_of, sums_told
@@ -51,10 +54,10 @@ RELEASED = (
 def today(served: Served) -> Any:
     """The page of what is to be done today."""
     own = served.reading
-    office = own.office()
-    handed_in, last = office.handed_in(), office.last()
+    office, handed_in = own.office(), own.handed_in()
+    last = office.last()
     items = [
-        (item.place, item_in_words(item), item.part.name, item.part.who, item.part.at)
+        (item.place, item_in_words(item), item.part.name, item.part.who, voice.time(item.part.at))
         for item in handed_in.items(*handed.KINDS)
     ]
     waits = [
@@ -66,12 +69,11 @@ def today(served: Served) -> Any:
     with contextlib.suppress(WordsFault):
         new = [tried for tried in own.tried(None)[1] if tried.is_new] if items or waits else []
     return show_page(
-        "today", "Today", last=last, is_released=office.journal.is_released(), items=items, waits=waits, came=own.came,
-        missed=due.missed_days(office), taken=[*map(row_of_taken, taken.of_next(handed_in))], holder=own.holder(),
-        coming=due.next_dates(office, MOST_COMING), faults=[*office.changed_files(last)] if last else [],
-        new=new, seconds=[(waiting, looks.look_at_waiting(own, office, handed_in, waiting.part))
-                          for waiting in awaited.all_waiting(office, handed_in)],
-        forged=approvals.all_approvals(office).faults, dates=own.dates(), doubts=due.doubts_of_last(office),
+        "today", "Today", last=last, is_released=office.events.is_released(), items=items, waits=waits, came=own.came,
+        missed=due.missed_days(office), taken=[*map(row_of_taken, taken.of(handed_in))],
+        coming=due.next_dates(office, MOST_COMING), dates=own.dates(), doubts=due.doubts_of_last(office),
+        new=new, seconds=[(waiting, looks.look_at_waiting(own, handed_in, waiting.part))
+                          for waiting in approvals.all_waiting(office, handed_in)],
     )  # fmt: skip
 
 
@@ -93,8 +95,8 @@ def next_day(served: Served) -> Any:
     }  # fmt: skip
     only = asked("only") if asked("only") in kinds else ""
     rows = [(tried.place or 0, tried.words, tried.said(), tried) for tried in looked if kinds[only](tried)]
-    handed_in = served.reading.office().handed_in()
-    items, gone = handed_in.items(handed.CHANGES, handed.EDITS, handed.WORK), taken.of_next(handed_in)
+    handed_in = served.reading.handed_in()
+    items, gone = handed_in.items(handed.CHANGES, handed.EDITS, handed.WORK), taken.of(handed_in)
     counts = {name: sum(map(is_so, looked)) for name, is_so in kinds.items()}
 
     def cells(row: Sequence[Any]) -> Sequence[Any]:
@@ -130,7 +132,7 @@ def change(served: Served) -> Any:
     number, own = number_asked("account"), served.reading
     of = asked("of") if asked("of") in ("rules", "new") and number is None else "account"
     if own.office().last() is None:
-        return gate.said(400, f"{gate.NO_DAY} Until then another first text, by ./day init, is in place of a change.")
+        return gate.said(400, f"{gate.NO_DAY} Until then another first text, by the command init, is in place of a change.")
     day = own.text_of_next()
     if number is not None and number not in day.book:
         raise WordsFault(f"there is no account {number} in the next day's text")
@@ -144,14 +146,16 @@ def change(served: Served) -> Any:
 def close(served: Served) -> Any:
     """The page that asks whether the next day is settled."""
     own, why, outcome_of = served.reading, "", None
-    dates, settler = own.dates(), settler_in_words(own.office().settings.program)
+    dates, program = own.dates(), own.office().settings.program
     # (by its name alone: where a program lies on the disk is nothing for a page)
-    named = re.sub("(the program )?.*/", r"\1", settler)
+    settler = settling.settler_in_words(os.path.basename(program))
+    is_built = settler == settling.BY_RUN
+    named = f"{settling.RUN.name}, {settling.BUILDS}" if is_built else settler
     engines = [("", f"by {named}, and compared with the second answer")] if settler else []
     date = asked("other") or asked("date") or str(dates[0])
     try:
         outcome_of, left = own.closing(date)
-        notes = [*outcome_of.notes, *left]
+        notes = [*outcome_of.notes, *left, *compliant_told(outcome_of)]
     except (WordsFault, FileFault) as fault:
         why, notes = str(fault), []
     return show_page(
@@ -159,7 +163,7 @@ def close(served: Served) -> Any:
         notes=[note for note in notes if not note.startswith(LOOK)],
         alerts=[note.removeprefix(f"{LOOK}: ") for note in notes if note.startswith(LOOK)],
         totals=totals_of(outcome_of.before, outcome_of.after) if outcome_of else "",
-        engines=[*engines, ("1", SECOND)], engine="1" if settler in ("", BY_RUN) else "",
+        engines=[*engines, ("1", SECOND)], engine="" if settler and not is_built else "1",
     )  # fmt: skip
 
 
@@ -176,26 +180,27 @@ def totals_of(before: Mapping[str, Sums], after: Mapping[str, Sums]) -> Markup:
 def day_rows(served: Served) -> list[tuple[Any, ...]]:
     """All settled days, the last one first."""
     told = releasing.days_told(served.reading.office())
-    return [(str(own.date), own.who, own.at, own.next - own.first, *more) for own, *more in told]
+    return [(str(own.date), own.who, voice.time(own.at), own.next - own.first, *more) for own, *more in told]
 
 
 def days(served: Served) -> Any:
     """The page of all settled days."""
     office, rows = served.reading.office(), day_rows(served)
-    return show_page("days", "Days", rows=rows, last=office.last(), is_released=office.journal.is_released(),
+    return show_page("days", "Days", rows=rows, last=office.last(), is_released=office.events.is_released(),
                      columns=DAYS, shown_row=lambda row: (link(f"/days/{row[0]}", row[0]), *row[1:]))  # fmt: skip
 
 
 def undo(served: Served) -> Any:
     """The page that asks whether the last day is taken back, and says what that does. WordsFault if it can't be."""
-    own = served.reading
-    office = own.office()
-    there = office.last()
-    last = undoing.last_of(office, str(there.date) if there else None)
-    date, settled = undoing.date_again(asked("date") or None, office, last), own.settled(last.date)
-    assert settled is not None  # (it is the last day)
-    again, waits = own.of_next("undo", date, lambda: looks.look_at_undo(own, last, date))
-    before = [event.date for event in office.journal.filed()[:-1]][-1:]
+    own, by = served.reading, gate.by(served)
+    with own.moment():
+        office = own.office()
+        there = office.last()
+        last = undoing.last_of(office, there.date if there else None)
+        date = undoing.date_again(office, last, date_of("the day", asked("date")) if asked("date") else None)
+        settled, before = own.settled(last.date), [event.date for event in office.events.days[:-1]][-1:]
+        assert settled is not None  # (it is the last day)
+    again, waits = own.of_next("undo", date, lambda: looks.look_at_undo(own, by, last.date, date))
     earlier = [own for own in settled.head.working_days if before and before[0] < own < last.date]
     count, said = Counter(map(kind_of, settled.log)), long_date(last.date)
     told = ", ".join(f"{count[kind]} {kind}" for kind in OUTCOMES)
@@ -216,7 +221,8 @@ def release(served: Served) -> Any:
     """The page that asks whether a day is released, and says what that means. WordsFault if it can't be."""
     office, rows = served.reading.office(), [row for row in day_rows(served) if row[-1] == "no"]
     last = office.last()
-    day = releasing.day_to_release(office, asked("day") or (str(last.date) if last else None))
+    named = date_of("the day", asked("day")) if asked("day") else None
+    day = releasing.day_to_release(office, named or (last.date if last else None))
     touched, said = [row for row in rows if row[0] <= str(day.date)], long_date(day.date)
     doubt = releasing.doubt_of(day)
     return show_page(
@@ -256,9 +262,9 @@ def parts_of(settled: Settled, own: Reading) -> Iterator[Markup]:
         (book.check_link(code), len(logged), book.words(book.checks[code].advice))
         for code, logged in settled.refused().items()
     ]
-    office, event = own.office(), own.office().journal.day_of(settled.head.date)
+    office, event = own.office(), own.office().events.day_of(settled.head.date)
     gone = [*map(row_of_taken, taken.of_day(office, settled.head.date))]
-    files = [*awaited.files_of(office, event)] if event else []
+    files = [(*row, voice.time(at)) for *row, at in approvals.files_of(office, event)] if event else []
     yield summary.lead(settled)
     if settled.log:
         yield summary.acts_table(settled)

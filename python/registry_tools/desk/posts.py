@@ -7,15 +7,15 @@ import flask
 from registry_tools.desk import forms, gate, log, looks
 from registry_tools.desk.gate import Served
 from registry_tools.desk.shown import ROWS, address_of, outcome, show_page, sorted_table
+from registry_tools.cli.words import one_line
 from registry_tools.errors import WordsFault
 from registry_tools.office import handed, trial
-from registry_tools.office.given import Given
+from registry_tools.office.incoming import Given
 from registry_tools.office.people import MAY_WAIT
 from registry_tools.office.trial import Looked, whys
-from registry_tools.office.words import one_line
 from registry_tools.pages.beside import BESIDE, side_by_side
 
-ONCE, STATE = re.compile("[0-9a-f]{16}"), re.compile("[0-9a-f]{64}[.][0-9]{1,9}[.][0-9]{1,9}[.][0-9a-f]{16}")
+ONCE, STATE = re.compile("[0-9a-f]{16}"), re.compile("[0-9a-f]{64}")
 PLACE, AGAIN = re.compile("[1-9][0-9]{0,8}"), re.compile("([0-9]{1,3}):([1-9][0-9]{0,8})")
 # What may stand between numbers.
 BETWEEN = re.compile(r"[\s,;]+")
@@ -25,7 +25,7 @@ LONGEST_FIELD = 200
 # The words of a form that its page makes; those that are no fields of what it asks for; and forms of no own page.
 OF_PAGE = {"token", "once", "state"}
 OF_FORM, OF_UPLOAD = OF_PAGE | {"who", "why"}, {"place", "again", "dates"}
-OF_TODAY = {"/approve", "/put-right"}
+OF_TODAY = {"/approve"}
 
 
 def form(name: str) -> str:
@@ -54,7 +54,8 @@ def do(served: Served, command: str, *more: str, makes: bool = False) -> Any:
     who, state = gate.name(served), form("state")
     if not STATE.fullmatch(state):
         raise WordsFault(NOT_WHOLE)
-    words = [f"--who={who}", f"--seen={state}", *gate.speaks_for(served, who), *more]
+    whom = gate.speaks_for(served, who)
+    words = [f"--who={who}", f"--seen={state}", *([f"--for={whom}"] if whom is not None else []), *more]
     return begin(served, command, *words, seen=state, makes=makes)
 
 
@@ -79,7 +80,7 @@ def name(served: Served) -> Any:
 
 def uploaded(served: Served) -> str:
     """The name of a new upload in the private folder, with the files of the form: they wait there for a yes."""
-    place = served.jobs.new_upload()
+    place = served.jobs.new_upload(flask.request.content_length or 0)
     for upload in flask.request.files.getlist("files"):
         if upload.filename:
             upload.save(served.jobs.place_for(place, upload.filename))
@@ -99,7 +100,7 @@ def look(served: Served) -> Any:
         raise WordsFault("no file was chosen")
     again = meant_again(len(files))
     with served.jobs.looking:
-        own = reading.whole(lambda: looks.look_at_incoming(reading, files, again, dates))
+        own = looks.look_at_incoming(reading, gate.by(served), files, again, dates)
     if own.faults and not own.meant:
         served.jobs.forget_upload(place)
     if own.meant:
@@ -161,11 +162,11 @@ def take_back(served: Served) -> Any:
 def look_at_change(served: Served) -> Any:
     """Shows what a change by hand would change."""
     words = [*forms.words_of_change(flask.request.form, served.reading)]
-    own = served.reading.whole(lambda: looks.look_at_change(served.reading, words))
+    own = looks.look_at_change(served.reading, gate.by(served), words)
     return show_page(
         "yes", "A look before it is changed", fields=fields_of_form(), notes=own.notes,
-        lead=f"Nothing is changed yet. For {own.after.head.date} this would be:", action="/change/make",
-        told=[sorted_table("Before and after", BESIDE, side_by_side(own.rows()))], no=way_back(),
+        lead=f"Nothing is changed yet. For {own.date} this would be:", action="/change/make",
+        told=[sorted_table("Before and after", BESIDE, side_by_side(own.rows))], no=way_back(),
         button="Yes, change it",
     )  # fmt: skip
 
@@ -235,9 +236,7 @@ def approve(served: Served) -> Any:
 
 
 def audit(served: Served) -> Any:
-    """Has the folder audited. Raises WordsFault at a desk that only looks, if a command left something."""
-    if served.is_look and served.reading.has_leftovers():
-        raise WordsFault("an interrupted command left something, and this desk changes nothing: the office has to look")
+    """Has the folder audited."""
     how = form("how")
     return begin(served, "audit", *([f"--{how}"] if how in ("second", "settle") else []))
 

@@ -1,47 +1,54 @@
 """The pages of questions: accounts, names, compliance, days together, the journal, audits, packages and answers."""
+import datetime
 import functools
 import io
 import tempfile
 import zipfile
+from collections.abc import Iterator, Sequence
+from dataclasses import replace
 from pathlib import Path
-from typing import Any, Iterator, Sequence
+from typing import Any
 
 import flask
 from werkzeug.exceptions import NotFound
 from werkzeug.wrappers import Response
 
+from registry_tools import tables, voice
 from registry_tools.calendars.dates import date_of
 from registry_tools.calendars.due_days import NOT_DUE
+from registry_tools.cli.asked import number_said
 from registry_tools.desk import gate
 from registry_tools.desk.gate import Served
 from registry_tools.desk.reading import Reading
 from registry_tools.desk.shown import TYPED, asked, number_asked, row_of_taken, show_page
-from registry_tools.desk.words import PAGES
 from registry_tools.errors import WordsFault
 from registry_tools.notes import BY_HAND
-from registry_tools.office import awaited, taken
-from registry_tools.office import listing
-from registry_tools.texts.labels import ACCOUNT, KINDS
+from registry_tools.office import approvals
 from registry_tools.pages import compliance as standing
 from registry_tools.pages.month_standing import until_in_words
 from registry_tools.pages.beside import item_in_words, words_of_row
 from registry_tools.pages.html import Markup, link
+from registry_tools.pages.month import Month
 from registry_tools.pages.rulebook import document_parts
 from registry_tools.pages.settled import REFUSED, WAITS, Settled, joined_words, outcome_in_words, record_in_words
 from registry_tools.pairs import compliance as answers
-from registry_tools.questions import find as finding
-from registry_tools.questions.history import in_folder as rows_of
+from registry_tools.questions import changes, taken
+from registry_tools.questions.find import Find, accounts_meant, cells_of as cells_of_found, find as found_by
+from registry_tools.questions.history import history
 from registry_tools.second import faults, rules
 from registry_tools.sheets import form
 from registry_tools.sheets.writing import Written, write_workbook
 from registry_tools.showing import as_csv
 from registry_tools.texts.in_words import grouped
+from registry_tools.texts.labels import ACCOUNT, KINDS, USER, Labels
 from registry_tools.texts.report import LogRow
 
 WORKBOOK = "application/vnd.openxmlformats-officedocument.spreadsheetml.sheet"
 # Where somebody goes on behind a command.
 BEHIND = dict.fromkeys(("hand-in", "change", "take-back"), ("/next", "To the next day"))
 BEHIND["label"] = ("/names", "To the names")
+# What the dates of an address are called.
+NAMES_OF_DATES = {"from": "the first day", "to": "the last day", "deadline": "the deadline"}
 # What is told of an operator.
 COLUMNS = ["Account", "Holder", "Surrendered", "Emissions", "Surrendered of emissions", "Figure now", "Verdict"]
 
@@ -77,7 +84,7 @@ def account(served: Served, number: int) -> Any:
     own = served.reading
     return show_page(
         "account", f"Account {number}", own=parts, number=number,
-        history=[*map(row_of_history, rows_of(own.asked(account=number)))] if asked("history") else None,
+        history=[*map(row_of_history, own.of_days(lambda there: history(there, number)))] if asked("history") else None,
         shown_row=lambda row: (*row[:3], own.outcome(str(row[0]), row[1], row[3]), *row[4:]),
     )  # fmt: skip
 
@@ -95,7 +102,7 @@ def row_of_history(row: Sequence[Any]) -> Sequence[Any]:
 
 def names(served: Served) -> Any:
     """The page of the names of users, holders and accounts."""
-    rows = [(*own[:3], own.at, *own[4:]) for own in served.reading.names().named.values()]
+    rows = [(*own[:3], voice.time(own.at), *own[4:]) for own in served.reading.names().named.values()]
     return show_page("names", "Names", rows=sorted(rows, key=lambda row: (row[0], int(row[1]))), kinds=KINDS)
 
 
@@ -107,7 +114,7 @@ def compliance(served: Served) -> Any:
     year, word = number_asked("year") or answers.last_year_over(settled.head), asked("deadline")
     office, standings = own.office(), answers.standings(settled.day, settled.report, year)
     deadline = date_of("the deadline", word) if word else office.settings.due.surrender_of(year)
-    rows = own.once(("standings", year), office.journal.last_line, lambda: sorted(standings, key=standing.order))
+    rows = own.once(("standings", year), own.state_of_days(), lambda: sorted(standings, key=standing.order))
     return show_page(
         "compliance", f"Compliance for {year}", year=year, rows=[*map(row_of_standing, rows)], columns=COLUMNS,
         counts=standing.counts_table(rows) if rows else "", until=until_in_words(settled.head.date, deadline),
@@ -134,30 +141,48 @@ def month_page(served: Served) -> Any:
     if last is None:
         return gate.said(400, gate.NO_DAY)
     # (without a word, the month of the last day)
-    begin, end = asked("from") or str(last.date.replace(day=1)), asked("to") or str(last.date)
-    asked_for = {"year": number_asked("year"), "deadline": asked("deadline") or None}
-    title, lead, parts = served.reading.month(begin=begin, end=end, **asked_for)
+    begin, end = (date_asked("from") or last.date.replace(day=1)), (date_asked("to") or last.date)
+    month = Month(begin, end, number_asked("year"), date_asked("deadline"))
+    title, lead, parts = served.reading.month(month)
     return show_page("month", title, lead=lead, own=parts, begin=begin, end=end)
 
 
-def filters() -> dict[str, Any]:
-    """What the address asks for, as the words of ./day find."""
-    act = asked("act") or None
+def date_asked(name: str) -> datetime.date | None:
+    """The date that a word of the address says, if it is there. Raises WordsFault if it is none."""
+    return date_of(NAMES_OF_DATES[name], asked(name)) if asked(name) else None
+
+
+def wanted(names: Labels) -> Find:
+    """Which log rows the address asks for. Raises WordsFault if nothing has a name that it says."""
+    act, begin, end = asked("act") or None, date_asked("from"), date_asked("to")
     if act not in (None, *faults.ACT_WORDS):
         raise WordsFault(f"{act}: there is no such act")
-    return {
-        **{name: asked(name) or None for name in ("account", "user", "name")}, "act": act,
-        "refused": bool(asked("refused")), "begin": asked("from") or None, "end": asked("to") or None,
-    }  # fmt: skip
+    found = Find(
+        number_or_name("account", names), None, number_or_name("user", names, USER), act, bool(asked("refused")),
+        bool(asked("no_waiting")), begin or datetime.date.min, end or datetime.date.max,
+    )  # fmt: skip
+    if found.begin > found.end:
+        raise WordsFault(f"the first day {begin} is later than the last day {end}")
+    if not asked("name"):
+        return found
+    label = names.one(asked("name"))
+    if getattr(found, label.kind) not in (None, int(label.number)):
+        raise WordsFault(f"name {asked('name')} is {label}, and {label.kind} another one")
+    return replace(found, **{label.kind: int(label.number)})
+
+
+def number_or_name(word: str, names: Labels, kind: str = ACCOUNT) -> int | None:
+    """The number that a word of the address says, or that of what it names; None, if it is not there."""
+    return number_said(word, asked(word), names, kind) if asked(word) else None
 
 
 def find(served: Served) -> Any:
     """The page of log rows over all days."""
     own, rows = served.reading, None
     if flask.request.args and TYPED not in flask.request.args:
-        said, state = filters(), own.state_of_names()
-        rows = own.once(("found", *said.values()), state, lambda: [*map(row_of_log, own.found(**said)[0])])
-        rows = [row for row in rows if row[5] != WAITS or not asked("no_waiting")]
+        found = wanted(own.names())
+        logged = functools.partial(own.of_days, lambda there: [*map(row_of_log, found_by(there, found))])
+        rows = own.once(("found", found), own.state_of_days(), logged)
     query = flask.request.query_string.decode("ascii", "replace")
     return show_page("find", "Find", rows=rows, query=query, shown_row=lambda row: cells_of_log(own, row))
 
@@ -180,11 +205,11 @@ def cells_of_log(own: Reading, row: Sequence[Any]) -> Sequence[Any]:
 
 def find_file(served: Served, kind: str) -> Response:
     """What was found, with all columns of ./day find, as a file."""
-    rows, meant = served.reading.found(**filters())
-    rows = [own for own in rows if own.name != NOT_DUE or not asked("no_waiting")]
-    cells = (row for own in rows for row in finding.cells_of(own, meant))
+    own, found = served.reading, wanted(served.reading.names())
+    logged, meant = own.of_days(lambda there: (found_by(there, found), accounts_meant(there, found)))
+    cells = (row for each in logged for row in cells_of_found(each, meant))
     texts = (["" if cell is None else str(cell) for cell in row] for row in cells)
-    return file_of(served, kind, Written("found", [finding.COLUMNS.names, *texts]))
+    return file_of(served, kind, Written("found", [tables.COLUMNS["find"].names, *texts]))
 
 
 def table_file(served: Served, kind: str) -> Response:
@@ -215,11 +240,11 @@ def download(content: bytes, kind: str, name: str) -> Response:
 def journal(served: Served) -> Any:
     """The page of what was done in the folder, and changed by hand."""
     office = served.reading.office()
-    who = functools.partial(awaited.who_and_second, office)
-    events = [(own.at, own.event, str(own.date), who(own.who, own.login, own.approved), own.why)
-              for own in reversed(office.journal.events)]  # fmt: skip
-    by_hand = [(day, own.part.at, who(own.part.who, own.part.login, second), own.part.name, item_in_words(own))
-               for day, own, second in listing.items_of(office)]  # fmt: skip
+    who = functools.partial(approvals.who_and_second, office)
+    events = [(voice.time(own.at), own.what, str(own.date), who(own.who, own.login, own.approved), own.why)
+              for own in reversed(office.events.of_days())]  # fmt: skip
+    by_hand = [(day, voice.time(own.part.at), who(own.part.who, own.part.login, second), own.part.name,
+                item_in_words(own)) for day, own, second in changes.items_of(office)]  # fmt: skip
     gone = [(day, *row_of_taken(own)) for day, own in taken.of_all(office)]
     return show_page("journal", "Journal", events=events, by_hand=[*reversed(by_hand)], taken=[*reversed(gone)])
 
@@ -232,8 +257,8 @@ def audit(served: Served) -> Any:
 def send(served: Served) -> Any:
     """The page of packages for holders."""
     office = served.reading.office()
-    dates = [own.date for own in reversed(office.journal.filed())]
-    return show_page("send", "Send", dates=dates, is_released=office.journal.is_released(), jobs=served.jobs.of("send"))
+    dates = [own.date for own in reversed(office.events.days)]
+    return show_page("send", "Send", dates=dates, is_released=office.events.is_released(), jobs=served.jobs.of("send"))
 
 
 def job(served: Served, number: str) -> Any:
@@ -248,7 +273,7 @@ def job(served: Served, number: str) -> Any:
     if there.status == 0 and there.made():
         leads = (f"/jobs/{number}/packages.zip", "Download the packages")
     return show_page(
-        "job", PAGES[there.command], job=there, status=there.status, leads=leads,
+        "job", voice.page_of(there.command), job=there, status=there.status, leads=leads,
         has_changed=bool(there.seen) and there.seen != flask.g.state, refresh=2 if there.status is None else None,
     )  # fmt: skip
 

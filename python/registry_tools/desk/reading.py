@@ -1,47 +1,49 @@
 """What the pages show: read by the functions behind the commands, and kept as long as the folder is the same. Nothing
 here writes into the folder."""
-import argparse
 import contextlib
 import datetime
 import functools
 import gc
+import os
 import threading
 import time
 from collections import OrderedDict
-from dataclasses import replace
+from collections.abc import Callable, Iterator
+from dataclasses import dataclass
 from pathlib import Path
-from typing import Any, Callable, TypeVar
+from typing import Any, TypeVar
 
+from registry_tools import voice
 from registry_tools.calendars.dates import date_of
 from registry_tools.errors import FileFault, WordsFault
-from registry_tools.office import close, composing, files, folder, handed, lock, past, prepared, trial
-from registry_tools.texts import labels
+from registry_tools.layout import SETTINGS
+from registry_tools.office import approvals, close, composing, folder, handed, trial
 from registry_tools.office.composing import NextDay
-from registry_tools.office.folder import Office
-from registry_tools.office.journal import Event
-from registry_tools.texts.labels import Labels
-from registry_tools.layout import JOURNAL, LABELS, SETTINGS
+from registry_tools.office.handed import HandedIn
+from registry_tools.office.office import Office
 from registry_tools.office.waits import waiting_behind
 from registry_tools.pages import indexed, month, send
 from registry_tools.pages.account import own_parts
 from registry_tools.pages.html import Frame, Markup, joined, link
+from registry_tools.pages.month import Month
 from registry_tools.pages.rulebook import Rulebook, link_to_check
-from registry_tools.pages.settled import REFUSED, WAITS, ByHand, Settled, by_hand_before
+from registry_tools.pages.settled import REFUSED, WAITS, ByHand, Settled, by_hand_before, told_by
 from registry_tools.pages.statement import Statement
-from registry_tools.questions import find
+from registry_tools.questions import days, month as months
+from registry_tools.questions.days import Days
+from registry_tools.store import file, past
+from registry_tools.store.events import LABELLED, Event
 from registry_tools.texts.checks import checks, form_words
 from registry_tools.texts.day_text import DayText
+from registry_tools.texts.labels import Labels
 from registry_tools.texts.report import LogRow
 
 T = TypeVar("T")
-# A command that moves a day into its place is seen halfway for a moment: so often it is looked again.
-TIMES, PAUSE = 5, 0.2
 # What takes longer than so many seconds is large.
 LONG = 1.0
 # So many things that were worked out are kept; so many days have a statement of an account, so many rows a table of a
 # month, and so many dates a list.
 MOST_KEPT, DAYS_OF_STATEMENT, MOST_ROWS, MOST_DATES = 12, 31, 100, 10
-NEXT = Path("the next day")
 
 
 class DeskSettled(Settled):
@@ -60,46 +62,66 @@ class DeskBook(Rulebook):
         return super().words(form_words(sentence), root)
 
 
+@dataclass
+class Open:
+    """The folder as a thread has it open: which files these are, and how its settings were."""
+
+    files: str
+    office: Office
+
+
 class Reading:
     """A folder as it is now."""
 
     def __init__(self, path: Path, private: Path) -> None:
         self.path, self.private = path, private
-        self.lock = threading.Lock()
+        self.lock, self.opened = threading.Lock(), threading.local()
         self.kept: OrderedDict[object, tuple[str, threading.Lock, list[Any]]] = OrderedDict()
 
     def office(self) -> Office:
-        """The folder with its journal, which is read again as soon as a file of them is another one."""
+        """The folder with all that was done, as this thread has it open: as it is now, or, in the block of `moment`, as
+        it was at its beginning."""
+        own: Open | None = getattr(self.opened, "own", None)
+        if own is not None and own.office.store.db.in_transaction:
+            return own.office
         path = folder.folder_of(str(self.path))
-        looks = " ".join(files.stamp_of(path / name) for name in (SETTINGS, JOURNAL))
-        return replace(self.once("office", looks, lambda: folder.read_office(path)))
+        files = " ".join(map(stamp_of, (path / SETTINGS, path / file.NAME)))
+        if own is None or own.files != files:
+            self.let_go()
+            own = self.opened.own = Open(files, folder.at(path))
+        with file.telling(own.office.store.path), own.office.store.reading():
+            return own.office
 
-    def has_leftovers(self) -> bool:
-        """Whether an interrupted command left something that the next one puts right."""
-        return prepared.has_leftovers(self.path) and not lock.is_held(self.path / lock.NAME)
+    def let_go(self) -> None:
+        """Closes the folder that this thread has open, if it has."""
+        own: Open | None = getattr(self.opened, "own", None)
+        self.opened.own = None
+        if own is not None:
+            own.office.store.close()
 
-    def holder(self) -> str:
-        """Who works on the folder now; nobody, if it is free."""
-        path = self.path / lock.NAME
-        return lock.holder_of(path) if lock.is_held(path) else ""
+    @contextlib.contextmanager
+    def moment(self) -> Iterator[None]:
+        """All that the block reads is as it is at one moment."""
+        office = self.office()
+        with file.telling(office.store.path), office.store.reading():
+            yield
+
+    @contextlib.contextmanager
+    def anew(self) -> Iterator[Office]:
+        """The folder, opened once more: for what is tried in it, and then taken back."""
+        with folder.at(folder.folder_of(str(self.path))) as office:
+            yield office
 
     def state(self) -> str:
         """What a change builds on; nothing, if the folder cannot be read."""
         with contextlib.suppress(FileFault, WordsFault, OSError):
-            return folder.state_of(self.office())
+            return self.office().state()
         return ""
 
-    def whole(self, work: Callable[[], T]) -> T:
-        """Does some reading once more if somebody changed the folder meanwhile."""
-        for _ in range(TIMES):
-            before = self.state()
-            try:
-                return work()
-            except (FileFault, OSError):
-                if before == self.state() and not lock.is_held(self.path / lock.NAME):
-                    raise
-                time.sleep(PAUSE)
-        return work()
+    def all_states(self) -> str:
+        """What all depends on that pages show: what was done, and the settings."""
+        own = self.office()
+        return f"{own.state()} {self.opened.own.files}"
 
     def once(self, key: object, state: str, work: Callable[[], T]) -> T:
         """What was worked out in this state of the folder: once, also if several ask at a time."""
@@ -124,28 +146,39 @@ class Reading:
 
     def names(self) -> Labels:
         """The names of users and holders."""
-        return labels.of_folder(self.path)
+        office = self.office()
+        return self.once("names", self.state_of_names(), office.names)
 
     def state_of_names(self) -> str:
-        """What all that tells of settled days depends on: the journal, the names, and the deadlines of the office."""
-        looks = " ".join(files.stamp_of(self.path / name) for name in (LABELS, SETTINGS))
-        return f"{self.office().journal.last_line} {looks}"
+        """What names depend on: the last event that gave some."""
+        return next((event.line for event in reversed(self.office().events.all) if event.what == LABELLED), "")
+
+    def state_of_days(self) -> str:
+        """What all that tells of settled days depends on: days, names, and the deadlines of the office."""
+        there = self.office().events.of_days()
+        return f"{there[-1].line if there else ''} {self.opened.own.files}"
 
     # Settled days.
+
+    def of_days(self, ask: Callable[[Days], T]) -> T:
+        """What settled days answer. Raises FileFault if their tables are not what they must be."""
+        store = self.office().store
+        with days.telling_of_tables(store.path):
+            return ask(days.of_store(store))
 
     def settled(self, date: datetime.date | None = None) -> DeskSettled | None:
         """A settled day, or the last one; None if there is none."""
         office = self.office()
-        event = office.journal.day_of(date) if date else office.last()
+        event = office.events.day_of(date) if date else office.last()
         if event is None:
             return None
-        state = f"{event.line} {files.stamp_of(self.path / LABELS)}"
-        return self.once(("settled", event.date), state, functools.partial(read_settled, office, event))
+        state = f"{event.line} {self.state_of_names()}"
+        return self.once(("settled", event.date), state, functools.partial(read_settled, office, event, self.names()))
 
     def waits_until(self, date: datetime.date, record: int) -> str:
         """Until when an instruction of a day waits, or waited."""
         office = self.office()
-        waits = self.once(("waits", date), office.journal.last_line, lambda: waiting_behind(office, date))
+        waits = self.once(("waits", date), self.state_of_days(), lambda: waiting_behind(office, date))
         due, last = next((own.due or own.entered for own in waits if own.record == record), None), office.last()
         if due is None:
             return "waits: the calendar has no due day"
@@ -160,87 +193,86 @@ class Reading:
         return self.waits_until(date_of("the day", day), record) if outcome == WAITS else outcome
 
     def came(self, date: datetime.date) -> str:
-        """What came of a day, by the index; nothing, if it cannot be read, which is told as a fault."""
-        with contextlib.suppress(FileFault):
-            (own,) = month.days_of_folder(self.asked().opened, date, date)
-            return f": {own.done} done, {own.refused.total()} refused, {own.waiting} waiting"
-        return ""
+        """What came of a day."""
+        (own,) = self.of_days(lambda asked: months.month(asked, date, date))
+        return f": {own.done} done, {own.refused.total()} refused, {own.waiting} waiting"
 
     def by_hand(self, date: datetime.date) -> ByHand:
         """What people changed before a settled day."""
         office = self.office()
-        filed = [event for event in office.journal.filed() if event.date <= date][-2:]
+        filed = [event for event in office.events.days if event.date <= date][-2:]
 
         def work() -> ByHand:
-            *before, own = past.read_all([past.pair_of(office, event) for event in filed])
+            *before, own = past.read_all([past.pair_of(office.store, event) for event in filed])
             pair = (before[0].day, before[0].report) if before else None
-            return by_hand_before(pair, own.day, str(office.day_folder(date)))
+            items = handed.for_a_day(office.store, filed[-1]).items(handed.CHANGES, handed.EDITS)
+            told = [[voice.time(at), *more] for at, *more in told_by(items)]
+            return by_hand_before(pair, own.day, told)
 
         return self.once(("by hand", date), filed[-1].line, work)
 
     def account(self, number: int) -> Markup | None:
         """All that stands on the page of an account; None, if there is no such account."""
-        settled, office = self.settled(), self.asked().opened
+        settled = self.settled()
         if settled is None or number not in settled.report.book:
             return None
-        own = Statement(settled, number, indexed.days_of(office, number, DAYS_OF_STATEMENT), self.waits_until)
+        told = self.of_days(lambda asked: indexed.days_of(asked, number, DAYS_OF_STATEMENT))
+        own = Statement(settled, number, told, self.waits_until)
         return joined(*own_parts(settled, settled.report.book[number].account(), own))
 
-    def asked(self, **more: Any) -> argparse.Namespace:
-        """The words of a question over all days."""
-        office = self.office()
-        office.aside = self.private / "index.sqlite"
-        known = {"opened": office, "office": None, "pairs": None, "begin": None, "end": None}
-        return argparse.Namespace(**{**known, **more})
-
-    def found(self, **filters: Any) -> tuple[list[LogRow], set[int]]:
-        """The log rows that a question asks for, and the accounts that it means, if it names some."""
-        said = self.asked(**filters)
-        find.take_names(said, self.names())
-        return [*find.in_folder(said, *past.span_of(said))], find.accounts_meant(said)
-
-    def month(self, **more: Any) -> tuple[str, str, list[Markup]]:
+    def month(self, asked: Month) -> tuple[str, str, list[Markup]]:
         """Several days together, as the page of ./day month has them."""
-        said = self.asked(**more)
-        key = ("month", said.begin, said.end, said.year, said.deadline)
-        return self.once(key, self.state_of_names(), lambda: month.parts_of(said, MOST_ROWS, link))
+        office = self.office()
+
+        def parts(there: Days) -> tuple[str, str, list[Markup]]:
+            return month.parts_of(there, office, self.names(), asked, MOST_ROWS, link)
+
+        return self.once(("month", asked), self.state_of_days(), lambda: self.of_days(parts))
 
     # The next day.
 
+    def handed_in(self) -> HandedIn:
+        """What was handed in for the next day."""
+        return approvals.handed_in_of(self.office())
+
     def dates(self) -> list[datetime.date]:
         """The days that may be settled next, the first of which is the one that is expected."""
-        office = self.office()
-        handed_in, last = office.handed_in(), office.last()
-        first = composing.settlement_date(None, office, handed_in)
+        office, handed_in = self.office(), self.handed_in()
+        last = office.last()
+        first = composing.settlement_date(office, handed_in)
         later = composing.working_days(office, last, handed_in) if last else []
         return [first, *(date for date in later if last and last.date < date != first)][:MOST_DATES]
 
     def of_next(self, name: str, date: datetime.date, work: Callable[[], T]) -> T:
         """What was worked out of the next day, if it is that of this date, or of the last one, as the folder is now."""
-        return self.once((name, date), f"{folder.state_of(self.office())} {date}", work)
+        return self.once((name, date), f"{self.all_states()} {date}", work)
 
     def next_day(self, word: str | None = None) -> NextDay:
         """The next day, as it stands."""
-        office = self.office()
-        handed_in = office.handed_in()
-        date = composing.settlement_date(word, office, handed_in)
-        return self.of_next("composed", date, lambda: composing.compose(office, handed_in.until(date), date))
+        office, handed_in = self.office(), self.handed_in()
+        date = date_of("the day", word) if word else composing.settlement_date(office, handed_in)
+
+        def work() -> NextDay:
+            with composing.telling_the_way_out():
+                return composing.compose(office, handed_in.until(date), date)
+
+        return self.of_next("composed", date, work)
 
     def text_of_next(self) -> DayText:
         """The text of the next day as it stands."""
         next_day = self.next_day()
-        return self.of_next("text", next_day.date, lambda: next_day.day(NEXT))
+        return self.of_next("text", next_day.date, next_day.day)
 
     def tried(self, word: str | None) -> tuple[NextDay, list[trial.Looked], list[str]]:
         """The next day, what would come of each instruction, and what the library answers otherwise."""
-        office, next_day = self.office(), self.next_day(word)
+        next_day = self.next_day(word)
 
         def work() -> tuple[list[trial.Looked], list[str]]:
-            looked = trial.look(next_day, next_day.day(NEXT), self.names())
+            looked = trial.look(next_day, next_day.day(), self.names())
             return looked, trial.of_library(next_day, looked)
 
         looked, otherwise = self.of_next("tried", next_day.date, work)
-        trial.mark_new(office.next_folder / handed.LOOKED, looked)
+        trial.mark_new(self.office(), looked)
         return next_day, looked, otherwise
 
     def closing(self, word: str | None) -> tuple[close.Outcome, list[str]]:
@@ -249,12 +281,21 @@ class Reading:
         outcome = self.of_next(
             "closing", next_day.date, lambda: close.outcome_of_day(close.settle(office, next_day, by_second=True))
         )
-        return outcome, close.left_for_later(office.handed_in(), next_day.date)
+        return outcome, close.left_for_later(self.handed_in(), next_day.date)
 
 
-def read_settled(office: Office, event: Event) -> DeskSettled:
+def read_settled(office: Office, event: Event, names: Labels) -> DeskSettled:
     """A settled day with its report and the names."""
-    own = next(past.read_all([past.pair_of(office, event)]))
-    earlier = send.waiting_of(str(past.as_filed(office, event, "waiting")), own)
-    names = labels.of_folder(office.path)
+    own = next(past.read_all([past.pair_of(office.store, event)]))
+    earlier = send.waiting_of(past.kept(office.store, event, "waiting"), own)
     return DeskSettled(own.day, own.report, DeskBook("/"), Frame([]), own.report.book.keys(), earlier, names)
+
+
+def stamp_of(path: Path) -> str:
+    """Which file this is; of the settings, which are read once, also how they were when they were read."""
+    try:
+        own = os.stat(path)
+    except OSError:
+        return "-"
+    changed = "" if path.name == file.NAME else f" {own.st_size} {own.st_mtime_ns}"
+    return f"{own.st_dev} {own.st_ino}{changed}"

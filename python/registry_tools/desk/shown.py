@@ -3,16 +3,19 @@ Page and order stand in the address, so that a link shows the same to a colleagu
 address: its tables have their first rows, and no links."""
 import re
 import urllib.parse
-from typing import Any, Callable, Collection, Iterable, Sequence
+from collections.abc import Callable, Collection, Iterable, Sequence
+from typing import Any
 
 import flask
 from werkzeug.wrappers import Response
 
+from registry_tools import voice
 from registry_tools.desk import words
 from registry_tools.errors import WordsFault
-from registry_tools.office import taken, trial
+from registry_tools.office import trial
 from registry_tools.pages.beside import item_in_words
 from registry_tools.pages.html import Markup, Table, joined, link, paragraph, sort_key, tag
+from registry_tools.questions import taken
 
 # The word of an address that only fills the form of a page with what was typed.
 TYPED = "typed"
@@ -30,7 +33,7 @@ def show_page(template: str, title: str, code: int = 200, **more: Any) -> Respon
     if 'class="dense' in text or ' dense"' in text:
         # (a page with the widest tables is as wide as they are)
         text = text.replace("<body>", '<body class="broad">', 1)
-    return flask.make_response(words.seen(text, *flask.current_app.config["PATHS"]), code)
+    return flask.make_response(words.in_sight(text), code)
 
 
 def asked(name: str) -> str:
@@ -66,7 +69,7 @@ def outcome(own: trial.Looked) -> object:
 def row_of_taken(own: taken.TakenBack) -> tuple[object, ...]:
     """What was taken back: its place, what it was or, behind the close, its file, who did it, when and why."""
     what = item_in_words(own.item) if own.item else f"a row of {own.part.name}" if own.part else ""
-    return own.taken.place, what, own.taken.who, own.taken.at, own.taken.why
+    return own.taken.place, what, own.taken.who, voice.time(own.taken.at), own.taken.why
 
 
 def sorted_table(

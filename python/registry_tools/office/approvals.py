@@ -15,6 +15,7 @@ import json
 from collections.abc import Collection, Iterator
 from typing import NamedTuple
 
+from registry_tools import voice
 from registry_tools.office import handed, people
 from registry_tools.office.handed import Approved, HandedIn, Part
 from registry_tools.office.office import Office
@@ -28,6 +29,8 @@ LIKE = {"correct": ("correct", "close", "undo")}
 # By these words a command says that it waits.
 ASKED_FOR = "is asked for, and waits for"
 FIRST_TEXT = "the first text, with instructions"
+# Behind this option, the words of a command are the reason.
+WHY = "--why "
 
 
 class Asked(NamedTuple):
@@ -84,7 +87,9 @@ class Asked(NamedTuple):
 
     def __str__(self) -> str:
         own = self.event
-        return " ".join([own.kind, str(own.date), *([own.name] if own.name else [])])
+        words, why, reason = own.name.partition(WHY)
+        said = [voice.option(word[2:]) if word.startswith("--") else word for word in words.split()]
+        return " ".join([own.kind, str(own.date), *said, *([voice.option("why"), reason] if why else [])])
 
 
 def sum_of_words(*words: str) -> str:
@@ -192,7 +197,7 @@ def let_through(
 
 def way(asked: Asked) -> str:
     """The command that approves what is asked for."""
-    return f"./day approve {asked.command} --date {asked.date}"
+    return voice.command("approve", asked.command, "--date", asked.date)
 
 
 def second_for(office: Office, commands: Collection[str], login: str) -> str:
@@ -230,12 +235,15 @@ def all_waiting(office: Office, handed_in: HandedIn) -> Iterator[Waits]:
         command, place = COMMAND_OF[part.kind], str(part.start)
         where, by = handed.places(part.start, part.end), who_did(office, part.who, part.login)
         second = second_for(office, (command,), part.login)
-        yield Waits(f"{where}, {command} by {by}, waits for {second}", where, f"./day approve {place}", (place,), part)
+        way_of_part = voice.command("approve", place)
+        yield Waits(f"{where}, {command} by {by}, waits for {second}", where, way_of_part, (place,), part)
     for asked in all_asked(office):
         own, others = who_did(office, asked.who, asked.login), approvers(office, asked)
         if others:
             by = ", ".join(map(office.people.in_words, others))
-            yield Waits(f"{asked}, asked for by {own}, is approved by {by}", str(asked), "give the command again", ())
+            again = voice.either("give the command again", "ask for it again, by its page")
+            again = voice.either("give the command again", "ask for it again, by its page")
+            yield Waits(f"{asked}, asked for by {own}, is approved by {by}", str(asked), again, ())
         else:
             second = second_for(office, asked.commands, asked.login)
             line = f"{asked}, asked for by {own}, waits for {second}"
@@ -250,7 +258,7 @@ def told_of_new(office: Office, parts: list[Part]) -> list[str]:
             commands = (COMMAND_OF[part.kind],)
             who, where = second_for(office, commands, office.login), handed.places(part.start, part.end)
             wait, does = ("waits", "does") if part.end == part.start + 1 else ("wait", "do")
-            told.append(f"{where} {wait} for {who}, and {does} not count before: ./day approve {part.start}")
+            told.append(f"{where} {wait} for {who}, and {does} not count before: {voice.command('approve', part.start)}")
     return told
 
 

@@ -4,6 +4,7 @@ import datetime
 from collections.abc import Collection
 from dataclasses import dataclass
 
+from registry_tools import voice
 from registry_tools.errors import WordsFault
 from registry_tools.office import approvals, change, composing, handed, people
 from registry_tools.office.approvals import COMMAND_OF, Asked
@@ -76,7 +77,8 @@ def part_at(office: Office, handed_in: HandedIn, word: str) -> Part:
     """What waits at a place, and may be approved by this login."""
     part = handed_in.part_at(int(word)) if word.isascii() and word.isdigit() else None
     if part is None:
-        raise WordsFault(f"{word}: expected a place of ./day status, or one of {', '.join(OF_DATES)} with --date")
+        expected = f"a place of {voice.command('status')}, or one of {', '.join(OF_DATES)} with {voice.option('date')}"
+        raise WordsFault(f"{word}: expected {expected}")
     if not approvals.needs_second(office, part):
         raise WordsFault(f"place {word} does not wait for another login")
     must_be_other(office, (COMMAND_OF[part.kind],), part.who, part.login)
@@ -93,7 +95,7 @@ def left_to_approve(office: Office, handed_in: HandedIn, parts: list[Part]) -> l
     for place in named:
         by = known.get(place)
         if by is not None and (by.login != office.login or not left):
-            raise WordsFault(f"place {place} was approved by {by.login} at {by.at}")
+            raise WordsFault(f"place {place} was approved by {by.login} at {voice.time(by.at)}")
     return left
 
 
@@ -121,7 +123,7 @@ def approve_command(office: Office, by: By, command: str, date: datetime.date) -
     with office.changing("approve", by):
         there = [asked for asked in approvals.all_asked(office) if asked.words == (command, str(date))]
         if not there:
-            way = f"./day {command} asks for it"
+            way = f"{voice.command(command)} asks for it"
             raise WordsFault(f"nobody asked for {command} of {date} as the folder stands now: {way}")
         asked = there[0]
         must_be_other(office, asked.commands, asked.who, asked.login)
@@ -137,5 +139,5 @@ def must_be_same(office: Office, asked: Asked) -> None:
         return
     composed = composing.compose(office, approvals.handed_in_of(office).until(asked.date), asked.date)
     if sum_of(composed.text + composed.waiting_text()) != asked.result:
-        why = "has changed since it was asked for: ./day close asks once more"
+        why = f"has changed since it was asked for: {voice.command('close')} asks once more"
         raise WordsFault(f"what closing {asked.date} gives {why}")

@@ -49,11 +49,9 @@ class Changed:
 def change(office: Office, by: By, asked: Change) -> Changed:
     """Shows a change by hand, and has it count if it is meant to. Raises WordsFault or FileFault if the next day can't
     have it, or if it changes nothing."""
-    with office.changing("change", by):
-        if asked.yes:
-            return changed(office, asked)
-        with office.store.trying():
-            return replace(changed(office, asked), part=None, waits=[])
+    with office.changing("change", by) if asked.yes else office.trying("change", by):
+        came = changed(office, asked)
+    return came if asked.yes else replace(came, part=None, waits=[])
 
 
 def changed(office: Office, asked: Change) -> Changed:

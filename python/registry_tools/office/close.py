@@ -5,6 +5,7 @@ import datetime
 from collections import Counter
 from dataclasses import dataclass
 
+from registry_tools import voice
 from registry_tools.calendars.due_days import NOT_DUE
 from registry_tools.errors import WordsFault, raise_first
 from registry_tools.notes import LOOK, worth_telling
@@ -81,7 +82,7 @@ def close(office: Office, by: By, asked: Close) -> Closed | Doubts | AskedFor:
         handed_in = approvals.handed_in_of(office)
         if asked.date is None:
             comes = composing.settlement_date(office, handed_in)
-            raise WordsFault(f"name the day: ./day close --date {comes} closes the next one")
+            raise WordsFault(f"name the day: {voice.command('close', '--date', comes)} closes the next one")
         with composing.telling_the_way_out():
             left = left_for_later(handed_in, asked.date)
             composed = composing.compose(office, handed_in.until(asked.date), asked.date)
@@ -104,11 +105,11 @@ def left_for_later(handed_in: HandedIn, date: datetime.date) -> list[str]:
     left = []
     places = [handed.places(part.start, part.end) for part in handed_in.waiting]
     if places:
-        left.append(f"{LOOK}: not in this day, and waits for another login: {', '.join(places)}; see ./day approve")
+        left.append(f"{LOOK}: not in this day, and waits for another login: {', '.join(places)}; see {voice.command('approve')}")
     items = [item for item in handed_in.items(*handed.KINDS) if item.part.is_of_later(date)]
     if items:
         first = min(item.part.earliest for item in items if item.part.earliest)
-        more = f"handed in for {first} or later: {len(items)}; ./day status shows them"
+        more = f"handed in for {first} or later: {len(items)}; {voice.command('status')} shows them"
         left.append(f"{LOOK}: not in this day, and {more}")
     return left
 
@@ -124,7 +125,7 @@ def hand_in_again(office: Office, old: HandedIn, parts: list[Part]) -> None:
 
 def settle(office: Office, composed: NextDay, by_second: bool, verifies: bool = False) -> Settled:
     """Settles the day, and looks whether the report is that of the day and what the rules make of it."""
-    day = composed.day(f"{office.store.path}/{composed.date}/day.csv")
+    day = composed.day(voice.path(f"{office.store.path}/{composed.date}/day.csv"))
     program = "" if by_second else named_program(office)
     text = settling.by_rules(day) if by_second else settling.by_engine(program, composed.text)
     engine = settling.SECOND_ANSWER if by_second else settling.engine_of(program)
@@ -176,7 +177,7 @@ def file_day(office: Office, settled: Settled, approved: str) -> Event:
     """Files a settled day, in a change of the folder, and answers its event."""
     composed, texts = settled.composed, office.store.texts
     day, report, waiting = settled.day, settled.report, composed.waiting_text()
-    kept = KeptText(f"{office.store.path}/{composed.date}/waiting.csv", lambda: waiting)
+    kept = KeptText(voice.path(f"{office.store.path}/{composed.date}/waiting.csv"), lambda: waiting)
     event = office.add(
         FILED, date=composed.date, first=day.head.next_record, next=report.next_record, approved=approved,
         engine=settled.engine.row(), text=texts.put(composed.text), report=texts.put(settled.report_text),

@@ -6,7 +6,7 @@ import re
 from collections.abc import Iterator
 from dataclasses import dataclass, field, replace
 
-from registry_tools import tables
+from registry_tools import tables, voice
 from registry_tools.calendars import working_days as calendars
 from registry_tools.errors import FileFault, WordsFault, shown
 from registry_tools.notes import BY_HAND, LOOK, Notes
@@ -75,7 +75,7 @@ def settlement_date(office: Office, handed_in: HandedIn) -> datetime.date:
     # (behind the end of the calendar, the next day serves to show what would come of it)
     following = last.date + datetime.timedelta(1)
     if following.year > tables.LAST_YEAR:
-        raise WordsFault(f"{last.date} is settled, and no text has a later date: {office.path} has no next day")
+        raise WordsFault(f"{last.date} is settled, and no text has a later date: {voice.path(office.path)} has no next day")
     return following
 
 
@@ -83,8 +83,8 @@ def ways_on(office: Office, handed_in: HandedIn, date: datetime.date) -> str:
     """What to say of a date that cannot be the next one: who closed it, which one comes next, and what takes the last
     one back."""
     last, event = last_day(office), office.events.day_of(date)
-    closed = f": {event.who} closed {date} at {event.at}" if event else ""
-    back = "" if office.events.is_released() else f", and ./day undo {last.date} takes the last one back"
+    closed = f": {event.who} closed {date} at {voice.time(event.at)}" if event else ""
+    back = "" if office.events.is_released() else f", and {voice.command('undo', last.date)} takes the last one back"
     return f"{closed}; the next one is {settlement_date(office, handed_in)}{back}"
 
 
@@ -98,7 +98,9 @@ def last_day(office: Office) -> Event:
     """The last day of a folder. Ends the command if no day is settled yet."""
     last = office.last()
     if last is None:
-        raise WordsFault(f"{office.path} has no settled day yet: ./day init puts another first text there")
+        raise WordsFault(
+            f"{voice.path(office.path)} has no settled day yet: {voice.command('init')} puts another first text there"
+        )
     return last
 
 
@@ -121,7 +123,7 @@ def telling_the_way_out() -> Iterator[None]:
         yield
     except FileFault as fault:
         if fault.place is not None and fault.expected:
-            fault.expected += f"; ./day take-back {fault.place} takes it back"
+            fault.expected += f"; {voice.command('take-back', fault.place)} takes it back"
         raise
 
 
@@ -134,11 +136,11 @@ def compose(office: Office, handed_in: HandedIn, date: datetime.date) -> NextDay
 def first_day(first: DayText, handed_in: HandedIn, date: datetime.date) -> NextDay:
     """The first day: its text as it is, and behind its instructions those that were handed in."""
     if date != first.head.date:
-        raise WordsFault(f"--date {date}: the first text of this folder is that of {first.head.date}")
+        raise WordsFault(f"{voice.option('date', date)}: the first text of this folder is that of {first.head.date}")
     for kind in (CHANGES, EDITS, WORK):
         item = next(handed_in.items(kind), None)
         if item:
-            why = "are for later days; correct the first text by ./day init in its place"
+            why = f"are for later days; correct the first text by {voice.command('init')} in its place"
             raise WordsFault(f"place {item.place}: {kind} {why}")
     new = [*handed_in.items(DO)]
     next_day.check_count(first.head.next_record, len(first.instructions) + len(new))
@@ -151,7 +153,8 @@ def about_first(first: DayText, new: list[Item]) -> Iterator[str]:
     """What is to be told of the first day, as of a later one: of its date, its calendar, and what was handed in."""
     notes = Notes()
     notes.warn(*next_day.about_date(None, first.head.date, first.head.working_days))
-    calendars.look_at_calendar(first.head, first.book, notes, "./day init takes a first text with more work rows")
+    more = f"{voice.command('init')} takes a first text with more work rows"
+    calendars.look_at_calendar(first.head, first.book, notes, more)
     for name, items in itertools.groupby(new, lambda item: item.part.name):
         own = [*items]
         rows = [row for item in own for row in item.rows], [line for item in own for line in item.lines]
@@ -164,8 +167,9 @@ def later_day(office: Office, handed_in: HandedIn, date: datetime.date) -> NextD
     last = last_day(office)
     day, report = last_pair(office, has_book=False)
     if date <= last.date:
-        raise WordsFault(f"--date {date} is not later than {last.date}, the last day{ways_on(office, handed_in, date)}")
-    contents, name = handed_in.contents(), f"{office.store.path}/next"
+        asked = voice.option("date", date)
+        raise WordsFault(f"{asked} is not later than {last.date}, the last day{ways_on(office, handed_in, date)}")
+    contents, name = handed_in.contents(), voice.path(f"{office.store.path}/next")
     merged = Merged(name, handed_in)
     try:
         composed = later_text(day, report, date, contents, past.kept(office.store, last, "waiting"), name)
@@ -283,7 +287,7 @@ def edits_in(name: str, content: bytes) -> list[Edit]:
             made.append(edits.edit_of(row))
             edits.must_be_readable(made[-1])
         except WordsFault:
-            raise FileFault(name, line, "row", shown(row), "a change by hand, as ./day change writes it") from None
+            raise FileFault(name, line, "row", shown(row), f"a change by hand, as {voice.command('change')} writes it") from None
     return made
 
 

@@ -7,6 +7,7 @@ would reverse something else: that is refused.
 import datetime
 from dataclasses import dataclass, field
 
+from registry_tools import voice
 from registry_tools.calendars.due_days import NOT_DUE, head_after
 from registry_tools.errors import FileFault, WordsFault
 from registry_tools.notes import LOOK
@@ -133,7 +134,7 @@ def must_be_open(office: Office, date: datetime.date, without: tuple[int, ...]) 
     """Ends the command if there is no such day, or if others know of it."""
     filed = office.events.day_of(date)
     if filed is None:
-        raise WordsFault(f"{date} is no settled day of {office.path}")
+        raise WordsFault(f"{date} is no settled day of {voice.path(office.path)}")
     if not office.events.is_released(filed):
         return
     law = [line for record in without for line in law_of(office, record)]
@@ -206,7 +207,7 @@ class Correction:
             _, report = past.read(past.pair_of(self.office.store, earlier))
             waited = [own.record for own in report.log if own.name == NOT_DUE and own.instruction.row == row]
             if waited:
-                return f"{said}; ./day correct {earlier.date} --without {waited[0]} leaves it out"
+                return f"{said}; {voice.command('correct', earlier.date, '--without', waited[0])} leaves it out"
         return said
 
     # The days once more.

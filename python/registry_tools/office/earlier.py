@@ -3,6 +3,7 @@ import re
 from collections.abc import Iterator
 from dataclasses import dataclass
 
+from registry_tools import voice
 from registry_tools.calendars.due_days import NOT_DUE
 from registry_tools.office import handed
 from registry_tools.office.handed import CHANGES, DO, begins_item
@@ -76,7 +77,7 @@ def file_had(office: Office, sum_of_file: str) -> str:
     for event in office.events.days:
         for part in handed.for_a_day(office.store, event).parts:
             if part.sum == sum_of_file:
-                return f"for {event.date}, by {part.who} at {part.at} as {part.name}"
+                return f"for {event.date}, by {part.who} at {voice.time(part.at)} as {part.name}"
     return ""
 
 

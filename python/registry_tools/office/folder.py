@@ -7,7 +7,7 @@
 import os
 from pathlib import Path
 
-from registry_tools import opening
+from registry_tools import opening, voice
 from registry_tools.errors import WordsFault
 from registry_tools.office import settings
 from registry_tools.layout import SETTINGS
@@ -24,15 +24,16 @@ def folder_of(word: str | None) -> Path:
     """The folder that a command works on: the named one, or the one in which it is run, or the one that a variable
     names. Raises WordsFault if it is no folder of days."""
     known = os.environ.get(VARIABLE)
-    ways = "--office FOLDER names one, ./day init makes one"
+    ways = f"--office FOLDER names one, {voice.command('init')} makes one"
     if word is not None:
-        path, where = Path(word), f"--office {word}"
+        path, where = Path(word), voice.either(f"--office {word}", "the folder")
     elif known and not Path(SETTINGS).is_file():
         path, where = Path(known), f"{VARIABLE}={known}"
     else:
-        path, where, ways = Path("."), "this folder", f"--office FOLDER or {VARIABLE} names one, ./day init makes one"
+        path, where, ways = Path("."), "this folder", f"--office FOLDER or {VARIABLE} names one, {voice.command('init')} makes one"
     if not (path / SETTINGS).is_file():
-        raise WordsFault(f"{where} is no folder of days: it has no {SETTINGS}; {ways}")
+        why = f"{where} is no folder of days: it has no {SETTINGS}"
+        raise WordsFault(voice.either(f"{why}; {ways}", why))
     opening.guard(path)
     return path
 

@@ -3,6 +3,7 @@ from collections.abc import Iterator, Sequence
 from dataclasses import dataclass, field
 from typing import NamedTuple
 
+from registry_tools import voice
 from registry_tools.calendars.due_days import NOT_DUE
 from registry_tools.errors import FileFault, WordsFault
 from registry_tools.office import approvals, composing, earlier, handed, incoming, people, trial
@@ -50,7 +51,7 @@ def hand_in(office: Office, by: By, asked: HandIn) -> Added:
 
 def look_at(office: Office, by: By, asked: HandIn) -> Added:
     """What handing in would give. Nothing is handed in."""
-    with office.changing("hand-in", by), office.store.trying():
+    with office.trying("hand-in", by):
         return added(office, asked)
 
 
@@ -145,8 +146,8 @@ def refuse(office: Office, here: Here, own: Incoming, line: int, what: tuple[str
         return
     checksum = sum_of(own.content)
     same = next((part for part in there.parts if part.sum == checksum and there.left_of(part)), None)
-    when = f"by {same.who} at {same.at} as {same.name}" if same else earlier.file_had(office, checksum)
-    more = f"--again {path}:{line} hands in once more what stands there"
+    when = f"by {same.who} at {voice.time(same.at)} as {same.name}" if same else earlier.file_had(office, checksum)
+    more = f"{voice.option('again', f'{path}:{line}')} hands in once more what stands there"
     if when:
         found = (same and here.named_as(same)) or f"was handed in {when}"
         fault = HadFault(path, 0, "file", f"the same as {found}", "another file")
@@ -200,7 +201,7 @@ def refuse_accounts(here: Here, own: Incoming) -> None:
         tag, _, rest = row.partition(",")
         number = rest.partition(",")[0]
         if tag == "account" and number in there:
-            item, expected = there[number], "another account; ./day take-back takes that one back"
+            item, expected = there[number], f"another account; {voice.command('take-back')} takes that one back"
             found, named = f"account {number}, which was handed in at place {item.place}", here.named_as(item.part)
             if named:
                 found, expected = f"account {number}, which stands in {named}", "another account"

@@ -5,12 +5,13 @@ import os
 from collections.abc import Sequence
 from dataclasses import dataclass, replace
 
+from registry_tools import voice
 from registry_tools.errors import FileFault, shown
 from registry_tools.office.handed import CHANGES, DO, MAPPING, TABLE, WORK, Original, begins_item
 from registry_tools.second import faults
 from registry_tools.sheets import columns, importing, limits, sheets
 from registry_tools.sheets.mapping import Mapping
-from registry_tools.sheets.table import OTHER_HEADINGS
+from registry_tools.sheets.table import other_headings
 from registry_tools.texts.day_text import read_blocks, read_rows_of, reading_of_any_day
 from registry_tools.texts.rows import Rows, packed_bytes_of, rows_of_text, text_of_rows, unpacked
 
@@ -19,8 +20,7 @@ TAGS = ("do", "work", "account")
 COLUMNS = {*columns.INSTRUCTION_COLUMNS, *columns.ACCOUNT_COLUMNS}
 # The first row of a table is not longer.
 FIRST_BYTES = 65_536
-EMPTY_TABLE = f"./day form makes an empty table, and {OTHER_HEADINGS}"
-EXPECTED = f"rows do, work or account in the first row: what is to be handed in; or the names of columns: {EMPTY_TABLE}"
+EXPECTED = "rows do, work or account in the first row: what is to be handed in; or the names of columns: "
 
 
 @dataclass(frozen=True)
@@ -152,7 +152,9 @@ def kind_of_rows(source: Rows) -> str:
     for kind in (DO, CHANGES, WORK):
         if begins_item(kind, f"{tag},"):
             return kind
-    raise source.fault(0, "tag", shown(tag), EXPECTED)
+    makes = f"{voice.command('form')} makes an empty table, and "
+    empty = f"{voice.either(makes, '')}{other_headings()}"
+    raise source.fault(0, "tag", shown(tag), f"{EXPECTED}{empty}")
 
 
 def checked_count(source: Rows, kind: str) -> int:

@@ -4,6 +4,7 @@ import os
 from dataclasses import dataclass
 from pathlib import Path
 
+from registry_tools import voice
 from registry_tools.errors import FileFault, WordsFault
 from registry_tools.office import approvals, handed, people
 from registry_tools.office.handed import FIRST, HandedIn
@@ -70,7 +71,7 @@ def change_first(office: Office, asked: Init, by: By) -> DayText:
         must_need_no_second(office, first)
         old = approvals.handed_in_of(office)
         if any(True for _ in old.items(*(kind for kind in handed.KINDS if kind != FIRST))):
-            raise WordsFault("take back first what was handed in: ./day status shows it")
+            raise WordsFault(f"take back first what was handed in: {voice.command('status')} shows it")
         put_first(office, old, first, asked.first)
     return first
 

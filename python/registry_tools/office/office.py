@@ -84,11 +84,22 @@ class Office:
         """The block changes the folder, whole or not at all. Ends the command if somebody has `seen` the folder in
         another state than it is in now, or if office.ini does not allow the command to this login."""
         with self.store.change():
-            self.login, self.who = by.login, by.who
-            people.must_be_allowed(self.people, self.login, command)
-            if by.seen is not None and by.seen != self.state():
-                raise LateFault(f"{CAME_LATE}: {'; '.join(self.done_since(by.seen))}")
+            self.let_in(command, by)
             yield
+
+    @contextlib.contextmanager
+    def trying(self, command: str, by: By) -> Iterator[None]:
+        """The same, and what the block changes is taken back at its end."""
+        with self.store.trying():
+            self.let_in(command, by)
+            yield
+
+    def let_in(self, command: str, by: By) -> None:
+        """Ends the command if this login may not give it now; what it does from here on is its own."""
+        self.login, self.who = by.login, by.who
+        people.must_be_allowed(self.people, self.login, command)
+        if by.seen is not None and by.seen != self.state():
+            raise LateFault(f"{CAME_LATE}: {'; '.join(self.done_since(by.seen))}")
 
     def state(self) -> str:
         """What a change builds on: after each change it is another one."""
@@ -97,7 +108,7 @@ class Office:
     def done_since(self, state: str) -> Iterator[str]:
         """What was done behind a state of the folder that somebody has seen, in words."""
         if not STATE.fullmatch(state):
-            raise WordsFault(f"--seen {shown(state)} is no state of a folder, and nothing was done: look once more")
+            raise WordsFault(f"{shown(state)} is no state of a folder, and nothing was done: look once more")
         lines = [event.line for event in self.events.all]
         if state not in lines:
             yield "it was a state of another folder, or of another history of this one"

@@ -18,6 +18,7 @@ from collections.abc import Collection
 from dataclasses import dataclass, field
 from pathlib import Path
 
+from registry_tools import voice
 from registry_tools.errors import FileFault, must_be_known, RightsFault, shown, WordsFault
 from registry_tools.layout import SETTINGS
 from registry_tools.store.texts import sum_of
@@ -138,9 +139,9 @@ def login_for(people: People, whom: str | None) -> str:
     if whom is None:
         return own
     if not people.may_speak(own):
-        raise WordsFault(f"--for {whom}: {own} may not speak for others: {SETTINGS} gives it no right {PROXY}")
+        raise WordsFault(f"{voice.option('for', whom)}: {own} may not speak for others: {SETTINGS} gives it no right {PROXY}")
     if not whom.strip() or SPEAKS_FOR in whom or not whom.isprintable():
-        raise WordsFault(f"--for {shown(whom)}: that is no login")
+        raise WordsFault(f"{voice.option('for', shown(whom))}: that is no login")
     return f"{own}{SPEAKS_FOR}{whom}"
 
 

@@ -3,6 +3,7 @@ import datetime
 from collections.abc import Iterator
 from dataclasses import dataclass
 
+from registry_tools import voice
 from registry_tools.errors import WordsFault
 from registry_tools.office import approvals
 from registry_tools.pairs import settling
@@ -86,12 +87,12 @@ def day_to_release(office: Office, date: datetime.date | None) -> Event:
     """The day that is named, which was not released yet."""
     last = office.last()
     if last is None:
-        raise WordsFault(f"{office.path} has no settled day")
+        raise WordsFault(f"{voice.path(office.path)} has no settled day")
     named = last if date is None else office.events.day_of(date)
     if named is None:
-        raise WordsFault(f"{date} is no settled day of {office.path}: the last one is {last.date}")
+        raise WordsFault(f"{date} is no settled day of {voice.path(office.path)}: the last one is {last.date}")
     if office.events.is_released(named):
         raise WordsFault(f"{named.date} was released before")
     if date is None:
-        raise WordsFault(f"name the day: ./day release {last.date} releases the last one")
+        raise WordsFault(f"name the day: {voice.command('release', last.date)} releases the last one")
     return named

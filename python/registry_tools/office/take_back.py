@@ -4,6 +4,7 @@ import re
 from collections.abc import Iterator
 from dataclasses import dataclass
 
+from registry_tools import voice
 from registry_tools.errors import WordsFault, shown
 from registry_tools.office import approvals, handed, people
 from registry_tools.office.handed import FIRST, HandedIn, Item, Part
@@ -41,10 +42,10 @@ def chosen(handed_in: HandedIn, asked: TakeBack) -> list[Item]:
     named = asked_places(handed_in, asked.places, there) if asked.places else [*there]
     first = [place for place in named if there[place].part.kind == FIRST]
     if first and asked.places:
-        raise WordsFault(f"place {first[0]} is an instruction of the first text: ./day init puts in another text")
+        raise WordsFault(f"place {first[0]} is an instruction of the first text: {voice.command('init')} puts in another text")
     found = [there[place] for place in named if place not in first and there[place].part in parts]
     if not found:
-        raise WordsFault("nothing is left of what the words name: ./day status shows what is handed in")
+        raise WordsFault(f"nothing is left of what the words name: {voice.command('status')} shows what is handed in")
     return found
 
 

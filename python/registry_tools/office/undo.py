@@ -3,6 +3,7 @@ folder keeps that it was filed, its texts, who took it back, and why."""
 import datetime
 from dataclasses import dataclass
 
+from registry_tools import voice
 from registry_tools.errors import WordsFault
 from registry_tools.office import approvals, handed, trial
 from registry_tools.office.approvals import AskedFor
@@ -49,14 +50,14 @@ def last_of(office: Office, named: datetime.date | None) -> Event:
     last = office.last()
     undone = office.events.undone(named) if named else None
     if named and undone and office.events.day_of(named) is None:
-        raise WordsFault(f"{named} is undone: {undone.who} took it back at {undone.at}")
+        raise WordsFault(f"{named} is undone: {undone.who} took it back at {voice.time(undone.at)}")
     if last is None:
-        raise WordsFault(f"{office.path} has no settled day")
+        raise WordsFault(f"{voice.path(office.path)} has no settled day")
     if office.events.is_released():
         corrects = "enter an instruction that corrects what was done"
         raise WordsFault(f"{last.date} was released, and is not undone: {corrects}")
     if named is None:
-        raise WordsFault(f"name the day: ./day undo {last.date} takes back the last one")
+        raise WordsFault(f"name the day: {voice.command('undo', last.date)} takes back the last one")
     if named != last.date:
         raise WordsFault(f"{named} is not the last day, and only {last.date}, which is, can be undone")
     return last
@@ -66,10 +67,10 @@ def date_again(office: Office, last: Event, meant: datetime.date | None) -> date
     """The first day that has again what the last day was made of: that day, or the earlier one that was meant."""
     before = office.events.days[:-1]
     if meant is not None and not before:
-        raise WordsFault(f"--date {meant}: the first text of this folder is that of {last.date}")
+        raise WordsFault(f"{voice.option('date', meant)}: the first text of this folder is that of {last.date}")
     date = meant or last.date
     if before and date <= before[-1].date:
-        raise WordsFault(f"--date {date} is not later than {before[-1].date}, the day before")
+        raise WordsFault(f"{voice.option('date', date)} is not later than {before[-1].date}, the day before")
     return date
 
 

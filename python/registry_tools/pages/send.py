@@ -4,6 +4,7 @@ import datetime
 from collections.abc import Callable
 from dataclasses import dataclass
 
+from registry_tools import voice
 from registry_tools.errors import WordsFault
 from registry_tools.texts.labels import Labels
 from registry_tools.output import NewFolder
@@ -49,10 +50,10 @@ def span_of(known: list[datetime.date], begin: datetime.date | None, end: dateti
     last = end or known[-1]
     first = begin or last
     if first > last:
-        raise WordsFault(f"--from {first} is later than {last}, the last day of the statements")
+        raise WordsFault(f"{voice.option('from', first)} is later than {last}, the last day of the statements")
     dates = [date for date in known if first <= date <= last]
     if last not in known or not dates:
-        raise WordsFault(f"--day {last}: there are days from {known[0]} to {known[-1]}, and not this one")
+        raise WordsFault(f"{voice.option('day', last)}: there are days from {known[0]} to {known[-1]}, and not this one")
     return [dates[0], last]
 
 
@@ -73,7 +74,7 @@ def accounts_of(report: Report, wanted: tuple[int, ...] | None) -> dict[int, lis
             holders.setdefault(block.holder, []).append(number)
     for holder in wanted or ():
         if holder not in holders:
-            raise WordsFault(f"--holder {holder}: no operator, aircraft or trading account has this holder")
+            raise WordsFault(f"{voice.option('holder', holder)}: no operator, aircraft or trading account has this holder")
     return {holder: holders[holder] for holder in wanted or holders}
 
 

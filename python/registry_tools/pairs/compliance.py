@@ -5,7 +5,7 @@ import operator
 from collections.abc import Iterable, Iterator, Sequence
 from dataclasses import dataclass
 
-from registry_tools import tables
+from registry_tools import tables, voice
 from registry_tools.engine import confirm_figures
 from registry_tools.errors import WordsFault
 from registry_tools.texts.labels import Labels
@@ -68,7 +68,7 @@ def last_year_over(head: rules.Day) -> int:
     year = min(last, head.date.year - 1)
     if year < first:
         there = f"no year of the current period, {first} to {last}, is over on {head.date}"
-        raise WordsFault(f"{there}: name a year by --year")
+        raise WordsFault(f"{there}: name a year by {voice.option('year')}")
     return year
 
 
@@ -77,7 +77,7 @@ def period_of(head: rules.Day, year: int) -> int:
     period = head.period_of(year)
     if period is None:
         there = ", ".join(f"{first} to {last}" for first, last in head.periods)
-        raise WordsFault(f"--year {year} is in no period of the day: there is {there}")
+        raise WordsFault(f"{voice.option('year', year)} is in no period of the day: there is {there}")
     return period
 
 

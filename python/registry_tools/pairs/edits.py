@@ -11,7 +11,7 @@ A difference stays right if the day before it is undone and closed again: it is 
 """
 from typing import Any, Iterable, NamedTuple
 
-from registry_tools import tables
+from registry_tools import tables, voice
 from registry_tools.errors import WordsFault, shown
 from registry_tools.second import faults, rules
 from registry_tools.texts import changes
@@ -53,7 +53,7 @@ class EditFault(WordsFault):
     was."""
 
     def __init__(self, edit: Edit, why: str, place: int | None = None) -> None:
-        super().__init__(why if place is None else f"place {place}: {why}; ./day take-back {place} takes it back")
+        super().__init__(why if place is None else f"place {place}: {why}; {voice.command('take-back', place)} takes it back")
         self.edit, self.why = edit, why
 
 
@@ -64,7 +64,7 @@ def edit_of(row: str) -> Edit:
         return Edit(account_number(words[0]), words[1], tuple(words[2:]))
     if what == RULES and len(words) >= 2 and words[0] in (PUT, ADD, DROP):
         return Edit(0, words[0], tuple(words[1:]))
-    raise WordsFault(f"{row} is no change by hand: see ./day change --help")
+    raise WordsFault(f"{row} is no change by hand: see {voice.command('change', '--help')}")
 
 
 def account_number(word: str) -> int:
@@ -129,7 +129,7 @@ def edited(edit: Edit, rows: list[str] | None) -> list[str]:
         kind, holder = edit.words
         return [NEW_ACCOUNT.format(number=edit.number, kind=kind, holder=holder)]
     if rows is None:
-        raise WordsFault(f"there is no account {edit.number}: --open-account opens one")
+        raise WordsFault(f"there is no account {edit.number}: {voice.option('open-account')} opens one")
     return {PUT: put_field, ADD: add_row, DROP: drop_row}[edit.how](edit, rows)
 
 
@@ -181,7 +181,7 @@ def edited_heading(edits: Iterable[Edit], heading: list[str]) -> list[str]:
         rows[rows.index("format,1")] = "format,2"
         rows += [] if named else ["current,1"]
     elif named and "format,1" in rows:
-        raise WordsFault("the one period is the current one: --period FIRST-LAST adds another")
+        raise WordsFault(f"the one period is the current one: {voice.either('--period FIRST-LAST', 'One more period')} adds another")
     return sorted(rows, key=place_of_rule)
 
 

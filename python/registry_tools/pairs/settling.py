@@ -13,7 +13,7 @@ import subprocess
 from pathlib import Path
 from typing import NamedTuple
 
-from registry_tools import installed, proof
+from registry_tools import installed, proof, voice
 from registry_tools.engine import NotSettled, find_library, tell_once
 from registry_tools.errors import WordsFault, of_file
 from registry_tools.progress import progress
@@ -22,7 +22,8 @@ from registry_tools.texts.day_text import DayText
 from registry_tools.texts.rows import text_of_rows
 
 RUN = installed.SCRIPT
-BY_RUN = f"{RUN}, which builds the program first if it is not there"
+BUILDS = "which builds the program first if it is not there"
+BY_RUN = f"{RUN}, {BUILDS}"
 PROGRAM, LIBRARY, SECOND = "program", "library", "second"
 PROVED, UNPROVED, UNKNOWN = "proved", "unproved", "-"
 IN_WORDS = {PROGRAM: "the program", LIBRARY: "the library", SECOND: "the second answer alone"}
@@ -138,7 +139,7 @@ def settler_in_words(named: str) -> str:
 def by_program(program: str, text: bytes, whose: str) -> bytes:
     """The report that a program writes of a day text."""
     if not program and not RUN.exists():
-        raise WordsFault("no program is named: put `program = PATH` into office.ini, or have --second settle")
+        raise WordsFault(f"no program is named: put `program = PATH` into office.ini, or have {voice.option('second')} settle")
     words = [program or str(RUN), "settle"]
     progress.tell(f"settling by {words[0]}")
     try:
@@ -147,7 +148,7 @@ def by_program(program: str, text: bytes, whose: str) -> bytes:
         raise of_file(words[0], f"it cannot be run: {error.strerror}") from None
     if run.returncode:
         said = run.stderr.decode("utf-8", "replace").strip()
-        more = "without the program, --second has the second answer settle"
+        more = voice.either(voice.either("without the program, --second has the second answer settle", "without the program, the second answer may settle"), "without the program, the second answer may settle")
         raise of_file(words[0], f"settle{whose} ends with status {run.returncode}: {said}\n{more}")
     tell_once(run.stderr)
     return run.stdout

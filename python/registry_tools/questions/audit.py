@@ -9,6 +9,7 @@ from dataclasses import dataclass, field
 from pathlib import Path
 from typing import NamedTuple
 
+from registry_tools import voice
 from registry_tools.errors import FileFault, UnwrittenFault, WordsFault, of_file, shown
 from registry_tools.notes import counted
 from registry_tools.office import anchors, approvals, composing, handed, settings
@@ -23,7 +24,7 @@ from registry_tools.store.checks import Again
 from registry_tools.store.events import HANDED, Event, Events
 from registry_tools.store.file import Store
 from registry_tools.store.past import PastDay
-from registry_tools.store.texts import Texts
+from registry_tools.store.texts import Texts, put_back
 from registry_tools.texts.day_text import DayText, read_day
 from registry_tools.texts.follows import differences
 from registry_tools.texts.report import Report, read_report
@@ -31,10 +32,16 @@ from registry_tools.texts.rows import KeptText, bytes_of, text_of_rows
 
 # How what is found is mended.
 FILE_FIRST = "put the file back from a copy first, and audit again"
-SETTLE_AGAIN = "./day undo takes the days back to this one, to be closed again; if released, a later day corrects it"
 OTHER_FOLDER = "look for the folder or the copy that has grown from there"
+NO_ENGINE_NAMED = "days for which the journal names no proved engine"
 # A filed day with the event that filed it, and its report.
 Filed = tuple[Event, DayText, Report]
+
+
+def settle_again() -> str:
+    """How a day is settled once more that is not what it must be."""
+    way = f"{voice.command('undo')} takes the days back to this one, to be closed again"
+    return f"{way}; if released, a later day corrects it"
 
 
 @dataclass(frozen=True)
@@ -74,7 +81,7 @@ class Found:
 
     def mending(self, _date: datetime.date) -> str:
         """How a difference of a day is mended."""
-        return SETTLE_AGAIN if self.has_events else FILE_FIRST
+        return settle_again() if self.has_events else FILE_FIRST
 
     def given(self, event: Event, _day: DayText) -> "Given":
         """What was handed in for a day."""
@@ -95,7 +102,7 @@ class Found:
             if told not in self.told:
                 self.told.add(told)
                 self.faults.append(fault)
-                if mend and checks.BACK not in told:
+                if mend and put_back() not in told:
                     words = "expected" if fault.expected else "found"
                     setattr(fault, words, f"{getattr(fault, words)}; {mend}")
 
@@ -119,7 +126,7 @@ class Found:
         """The last line, with the counts."""
         there = self.office.events
         counts = f"events {len(there.of_days())}, days {len(there.days)}, pairs read {self.pairs}{self.heads}"
-        return f"{self.office.path}: {counts}: {counted(len(self.faults), 'difference', 'differences')}"
+        return f"{voice.path(self.office.path)}: {counts}: {counted(len(self.faults), 'difference', 'differences')}"
 
 
 def audit(path: Path, asked: Audit) -> Found:
@@ -186,13 +193,13 @@ def look_at_handed(found: Found) -> None:
     store = found.office.store
     for event in store.events.all:
         if event.what == HANDED:
-            with found.adding(checks.BACK):
+            with found.adding(put_back()):
                 part = handed.part_of(store, event)
                 count = sum(1 for _ in handed.HandedIn(store, [part]).items_of(part))
                 if count > event.count or (count < event.count and not is_upgraded(store)):
                     where = f"event {event.id}, count"
                     found.add(FileFault(store.path, 0, where, event.count, f"{count}: so many stand in it"))
-    with found.adding(checks.BACK):
+    with found.adding(put_back()):
         approvals.handed_in_of(found.office)
 
 
@@ -241,7 +248,7 @@ def strange_days(found: Found) -> Iterator[FileFault]:
     store, filed = found.office.store, {str(event.date) for event in found.office.events.days}
     for (date,) in store.db.execute("SELECT DISTINCT date FROM days ORDER BY date"):
         if date not in filed:
-            yield FileFault(store.path, 0, "table days", shown(str(date)), f"the days of the events alone: {checks.BACK}")
+            yield FileFault(store.path, 0, "table days", shown(str(date)), f"the days of the events alone: {put_back()}")
 
 
 def look_at_day(found: Found, event: Event, before: Filed | None, by_program: bool, by_second: bool) -> Filed:
@@ -324,7 +331,8 @@ def engines_told(there: Events) -> Iterator[str]:
     """How many days no proved engine has settled."""
     days = [day for day in there.days if not settling.is_proved(day.engine)]
     if days:
-        yield f"settled by no proved engine, as far as the journal says: {len(days)}, last {days[-1].date}"
+        said = voice.either("settled by no proved engine, as far as the journal says", NO_ENGINE_NAMED)
+        yield f"{said}: {len(days)}, last {days[-1].date}"
 
 
 def people_told(there: Events) -> Iterator[str]:

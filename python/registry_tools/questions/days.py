@@ -8,6 +8,7 @@ from collections.abc import Iterator, Sequence
 from dataclasses import dataclass, field
 from pathlib import Path
 
+from registry_tools import voice
 from registry_tools.errors import WordsFault, of_file
 from registry_tools.store import daybook
 from registry_tools.store.file import Store, telling
@@ -82,8 +83,8 @@ def telling_of_tables(path: Path) -> Iterator[None]:
         with telling(path):
             yield
     except (LookupError, TypeError, ValueError, OverflowError) as error:
-        why = f"its tables do not have what the days have ({type(error).__name__} {error}): ./day audit tells more"
-        raise of_file(path, why) from error
+        why = f"its tables do not have what the days have ({type(error).__name__} {error})"
+        raise of_file(path, f"{why}: {voice.command('audit')} tells more") from error
 
 
 def of_pairs(pairs: Sequence[Pair]) -> Days:

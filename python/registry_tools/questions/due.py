@@ -5,7 +5,7 @@ import datetime
 from collections import Counter
 from typing import Iterator, NamedTuple
 
-from registry_tools import streams, tables
+from registry_tools import streams, tables, voice
 from registry_tools.calendars.deadlines import DueDates
 from registry_tools.calendars.due_days import head_after
 from registry_tools.calendars.ics import calendar_of
@@ -25,7 +25,6 @@ from registry_tools.texts.report import Report
 COLUMNS = tables.COLUMNS["due"]
 DEADLINE, OVERDUE, REVERSAL, LIST = "deadline", "overdue", "reversal ends", "list takes effect"
 WAITING, MISSED, CALENDAR = "waiting", "working day", "calendar ends"
-NO_MORE = "no working day behind it: hand in more by ./day hand-in"
 # A year has deadlines in the next one: so those of these years, counted back from the last day, may still come.
 YEARS_BACK = (1, 0)
 
@@ -141,7 +140,7 @@ def of_calendar(office: Office) -> Iterator[Due]:
         yield Due(date, MISSED, None, None, "it is over, and was not settled")
     last = composing.working_days(office, composing.last_day(office), approvals.handed_in_of(office))[-1:]
     for date in last:
-        yield Due(date, CALENDAR, None, None, streams.by_name(NO_MORE))
+        yield Due(date, CALENDAR, None, None, f"no working day behind it: hand in more by {voice.command('hand-in')}")
 
 
 # What comes next, as far as no account has to be read for it: so it is told at once, however many accounts there are.

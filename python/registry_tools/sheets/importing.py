@@ -29,6 +29,7 @@ import sys
 from dataclasses import dataclass
 from typing import Callable, Iterator, TypeVar
 
+from registry_tools import voice
 from registry_tools.errors import FILE, FileFault, shown
 from registry_tools.options import add_to
 from registry_tools.output import write_answer
@@ -45,7 +46,8 @@ EXAMPLE = (
     "  ./day import out/new.xlsx > out/new.csv"
 )
 MOST_SHOWN, MOST_TOLD = 5, 100
-OTHER_FORM, OTHER_AMOUNTS = "--dates tells another form", "amounts of --mapping tells the separators"
+# What the desk expects of an amount.
+PLAIN_AMOUNT = "a whole number without separators, as 1000"
 Found = TypeVar("Found")
 # How somebody writes a number with separators.
 PARTED = re.compile(rf"-?[0-9]{{1,3}}(?:[.,'{mappings.BLANKS}][0-9]{{3}})+(?:[.,][0-9]+)?", re.ASCII)
@@ -118,7 +120,7 @@ def wrong_cells(table: Table, number: int, fields: list[tuple[str, str]]) -> Ite
         try:
             own.read(word)
         except faults.Fault:
-            yield table.fault(number, name, shown(word), expected_of(table, own.expected, word))
+            yield told_of(table, number, name, shown(word), own.expected, word)
 
 
 def unused(table: Table, number: int, said: dict[str, str], act: str, used: set[str]) -> Iterator[FileFault]:
@@ -128,15 +130,19 @@ def unused(table: Table, number: int, said: dict[str, str], act: str, used: set[
             yield table.fault(number, name, shown(word), f"nothing: {act} has no {name.upper()}")
 
 
-def expected_of(table: Table, expected: str, word: str) -> str:
-    """What is expected: of a date in the form that was told, and else how another form is told, also of an amount."""
+def told_of(table: Table, number: int, name: str, found: str, expected: str, word: str, field: str = "") -> FileFault:
+    """What is wrong with a word of a cell, or with a field of it: what is expected of a date in the form that was told,
+    and else how another form is told, also of an amount."""
+    said, way = expected, ""
     if "in plain digits" in expected and table.mapping.amounts is None and PARTED.fullmatch(word):
-        return f"{expected}; {OTHER_AMOUNTS}"
-    if table.dates is not None:
-        return expected.replace("YYYY-MM-DD", f"as {table.dates}")
-    if "date" in expected and re.fullmatch(r"[0-9]{1,4}[./-][0-9]{1,2}[./-][0-9]{1,4}", word):
-        return f"{expected}; {OTHER_FORM}"
-    return expected
+        said, way = voice.either(expected, PLAIN_AMOUNT), voice.either("amounts of --mapping tells the separators", "")
+    elif table.dates is not None:
+        said = expected.replace("YYYY-MM-DD", f"as {table.dates}")
+    elif "date" in expected and re.fullmatch(r"[0-9]{1,4}[./-][0-9]{1,2}[./-][0-9]{1,4}", word):
+        way = voice.either("--dates tells another form", "another form is chosen with the file")
+    fault = table.fault(number, name, found, f"{field}{said}")
+    fault.way = way
+    return fault
 
 
 def accounts_of(table: Table) -> Iterator[Made | FileFault]:
@@ -200,11 +206,10 @@ def fault_of(table: Table, number: int, said: dict[str, str], row: list[str], fa
         found = columns.BETWEEN_FIELDS.join(row[1:])
         name = f"{fault.name}: " if fault.name else ""
         wrong = row[fault.place - 1] if fault.place else ""
-        expected = f"{name}{expected_of(table, fault.expected, wrong)}"
-        return table.fault(number, columns.LISTS[row[0]], shown(found), expected)
+        return told_of(table, number, columns.LISTS[row[0]], shown(found), fault.expected, wrong, name)
     name = columns.ACCOUNT_FIELDS[fault.place - 2] if fault.place >= 2 else "no"
     word = said.get(name, "")
-    return table.fault(number, name, shown(word), expected_of(table, fault.expected, word))
+    return told_of(table, number, name, shown(word), fault.expected, word)
 
 
 def imported(sheet: Sheet, are_accounts: bool | None, dates: str | None, mapping: Mapping = Mapping()) -> Imported:

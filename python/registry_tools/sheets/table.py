@@ -3,6 +3,7 @@ import datetime
 import re
 from collections.abc import Callable, Iterator, Sequence
 
+from registry_tools import voice
 from registry_tools.errors import FileFault, WordsFault, shown
 from registry_tools.sheets import mapping as mappings
 from registry_tools.sheets.mapping import Mapping
@@ -12,10 +13,14 @@ DATE_COLUMNS = {"proposed"}
 # (of a distribution, each receiver has its amount)
 AMOUNTS = re.compile("amount[2-8]?|tonnes|correction|general|aviation", re.ASCII)
 SHOWN_DAY = ("31", "12", "2026")
-# How somebody tells what his headings mean.
-OTHER_HEADINGS = "--mapping names other headings, as ./day import --help shows"
 # A column that a mapping passes over.
 PASSED_OVER = ""
+
+
+def other_headings() -> str:
+    """How somebody tells what his headings mean."""
+    help_of_import = voice.command("import", "--help")
+    return voice.either(f"--mapping names other headings, as {help_of_import} shows", "the page Hand in has empty tables")
 
 
 def date_reader(example: str | None) -> Callable[[str], str]:
@@ -62,7 +67,7 @@ class Table:
         """What is wrong with the names of the columns, and with cells that stand under none."""
         if not self.columns:
             yield self.sheet.fault(0, 0, "heading", "nothing", f"the names of columns: {', '.join(self.known)}")
-        expected = f"one of {', '.join(self.known)}; {OTHER_HEADINGS}"
+        expected = f"one of {', '.join(self.known)}; {other_headings()}"
         for place, name in enumerate(self.columns):
             if self.mapping.column(self.headings[place]) == PASSED_OVER:
                 continue

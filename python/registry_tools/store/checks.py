@@ -6,8 +6,8 @@ from pathlib import Path
 
 from registry_tools.errors import FileFault, of_file, shown
 from registry_tools.store import daybook, file
+from registry_tools.store.texts import put_back
 
-BACK = "put the file back from a copy: ./day audit --anchors tells whether it is the right one"
 # How many faults of pages SQLite tells at most.
 MOST_TOLD = 100
 Faults = Iterator[FileFault]
@@ -31,7 +31,7 @@ def asked(ask: Callable[[sqlite3.Connection, Path], Faults], db: sqlite3.Connect
 
 def unreadable(path: Path, error: object) -> FileFault:
     """That something of a file can't be told."""
-    return of_file(path, f"it cannot be read: {error}; {BACK}")
+    return of_file(path, f"it cannot be read: {error}; {put_back()}")
 
 
 def of_head(db: sqlite3.Connection, path: Path) -> Faults:
@@ -39,14 +39,14 @@ def of_head(db: sqlite3.Connection, path: Path) -> Faults:
     for name, expected in (("application_id", file.APPLICATION), ("user_version", file.LAYOUT)):
         there = db.execute(f"PRAGMA {name}").fetchone()[0]
         if there != expected:
-            yield FileFault(path, 0, name, there, f"{expected}: {BACK}")
+            yield FileFault(path, 0, name, there, f"{expected}: {put_back()}")
 
 
 def of_pages(db: sqlite3.Connection, path: Path) -> Faults:
     """What SQLite finds in its pages, and values of other types than their columns have."""
     for (told,) in db.execute(f"PRAGMA integrity_check({MOST_TOLD})"):
         if told != "ok":
-            yield FileFault(path, 0, "integrity_check", shown(str(told)), f"ok: {BACK}")
+            yield FileFault(path, 0, "integrity_check", shown(str(told)), f"ok: {put_back()}")
 
 
 def of_statements(db: sqlite3.Connection, path: Path) -> Faults:
@@ -56,7 +56,7 @@ def of_statements(db: sqlite3.Connection, path: Path) -> Faults:
         own, wanted = there.get(name, ""), expected.get(name, "")
         if own != wanted:
             found, made = (one_line(text) if text else f"no such {name[0]}" for text in (own, wanted))
-            yield FileFault(path, 0, " ".join(name), found, f"{made}: {BACK}")
+            yield FileFault(path, 0, " ".join(name), found, f"{made}: {put_back()}")
 
 
 def one_line(statement: str) -> str:
@@ -85,7 +85,7 @@ def of_keys(db: sqlite3.Connection, path: Path) -> Faults:
     """Rows that refer to what is not there."""
     for table, row, parent, _ in db.execute("PRAGMA foreign_key_check").fetchmany(MOST_TOLD):
         which = "a row" if row is None else f"row {row}"
-        yield FileFault(path, 0, f"table {table}", f"{which} of no row of {parent}", f"one of {parent}: {BACK}")
+        yield FileFault(path, 0, f"table {table}", f"{which} of no row of {parent}", f"one of {parent}: {put_back()}")
 
 
 # The tables of questions, which have to be what the texts of the days make.
@@ -121,4 +121,4 @@ class Again:
         )
         if strange or lacking:
             found, row = (shown(", ".join(map(str, own))) if own else "no such row" for own in (strange, lacking))
-            yield FileFault(self.path, 0, f"table {table}", found, f"{row}, as the texts of the days have it: {BACK}")
+            yield FileFault(self.path, 0, f"table {table}", found, f"{row}, as the texts of the days have it: {put_back()}")

@@ -80,15 +80,23 @@ class Store:
 
     @contextlib.contextmanager
     def trying(self) -> Iterator[None]:
-        """In a change, what the block adds is taken back at its end."""
-        self.db.execute("SAVEPOINT trying")
-        count = len(self.events.all)
-        try:
-            yield
-        finally:
-            self.db.execute("ROLLBACK TO trying")
-            self.db.execute("RELEASE trying")
-            self.events = Events(self.path, self.events.all[:count])
+        """What the block adds is taken back at its end: in a change, and else before it comes into the file."""
+        if self.db.in_transaction:
+            self.db.execute("SAVEPOINT trying")
+            count = len(self.events.all)
+            try:
+                yield
+            finally:
+                self.db.execute("ROLLBACK TO trying")
+                self.db.execute("RELEASE trying")
+                self.events = Events(self.path, self.events.all[:count])
+            return
+        with telling(self.path):
+            self.begin()
+            try:
+                yield
+            finally:
+                self.roll_back()
 
     def begin(self) -> None:
         """Begins a change, and reads what others have done since the file was opened."""

@@ -5,6 +5,7 @@ import functools
 from collections.abc import Iterator, Sequence
 from dataclasses import dataclass
 
+from registry_tools import voice
 from registry_tools.errors import FileFault, WordsFault
 from registry_tools.progress import progress
 from registry_tools.store.events import Event
@@ -118,7 +119,7 @@ def must_be_of_one_registry(before: Report, day: DayText) -> None:
 def kept(store: Store, event: Event, column: str) -> KeptText:
     """A text that an event has in a column, by the name under which faults tell it."""
     own = getattr(event, column)
-    return KeptText(f"{store.path}/{event.date}/{FILES[column]}", lambda: store.texts.get(own))
+    return KeptText(voice.path(f"{store.path}/{event.date}/{FILES[column]}"), lambda: store.texts.get(own))
 
 
 def pair_of(store: Store, event: Event) -> Pair:

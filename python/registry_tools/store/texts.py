@@ -5,6 +5,7 @@ from collections.abc import Collection, Iterator
 from dataclasses import dataclass
 from pathlib import Path
 
+from registry_tools import voice
 from registry_tools.errors import FileFault, of_file
 from registry_tools.texts.rows import MOST_TEXT, sum_of as sum_of
 
@@ -14,7 +15,11 @@ LEVEL = 6
 PIECE = 1 << 16
 # SQLite keeps no longer value.
 MOST_PACKED = 1_000_000_000
-BACK = "put the file back from a copy: ./day audit --anchors tells whether it is the right one"
+
+
+def put_back() -> str:
+    """What is done with a file that somebody changed."""
+    return f"put the file back from a copy: {voice.command('audit', '--anchors')} tells whether it is the right one"
 
 
 @dataclass(frozen=True)
@@ -77,7 +82,7 @@ class Texts:
 
     def fault(self, own: str, found: str) -> FileFault:
         """What is wrong with a text."""
-        return FileFault(self.path, 0, f"text {str(own)[:12]}", found, f"the text with the SHA-256 {own}: {BACK}")
+        return FileFault(self.path, 0, f"text {str(own)[:12]}", found, f"the text with the SHA-256 {own}: {put_back()}")
 
     def faults(self, without: Collection[str] = ()) -> Iterator[FileFault]:
         """What is wrong with all texts, but those that somebody looks at anyway."""

@@ -1,10 +1,10 @@
 """What each check means and what to do about it, in plain words, of the table of checks."""
 import functools
 import re
-from collections.abc import Iterable
-from dataclasses import dataclass
+from collections.abc import Callable, Iterable
+from dataclasses import dataclass, replace
 
-from registry_tools import streams, tables
+from registry_tools import streams, tables, voice
 
 LINK = re.compile(r"\[([^]]+)\]\(([^)]*)\)")
 # What forms and letters call the accounts of an instruction.
@@ -30,9 +30,10 @@ class Check:
     advice: str
 
 
-def without_marks(text: str) -> str:
-    """A sentence of a table without its marks. A link that only says `below` names the place."""
-    words = LINK.sub(lambda link: f"docs/RULES.md{link[2]}" if link[1] == "below" else link[1], text)
+def without_marks(text: str, place: Callable[[str], str] = "docs/RULES.md{}".format) -> str:
+    """A sentence of a table without its marks. A link that only says `below` names the place, a section of the
+    rules."""
+    words = LINK.sub(lambda link: place(link[2]) if link[1] == "below" else link[1], text)
     return streams.by_name(words.replace("`", ""))
 
 
@@ -60,6 +61,23 @@ def form_checks() -> dict[str, Check]:
     }
 
 
+@functools.lru_cache(maxsize=None)
+def desk_checks() -> dict[str, Check]:
+    """The same, as the desk says it, which has a page of the rules."""
+    there = {own.name: form_words(without_marks(own.advice, in_rules)) for own in tables.CHECKS}
+    return {own.name: replace(own, advice=there[own.name]) for own in form_checks().values()}
+
+
+def in_rules(section: str) -> str:
+    """A section of the rules, by its title."""
+    return f"the rules, under {section.removeprefix('#').replace('-', ' ')}"
+
+
+def checks_told() -> dict[str, Check]:
+    """The same as they are told: to who gives commands, or at the desk."""
+    return desk_checks() if voice.is_desk() else checks()
+
+
 def advice_for(name: str) -> str:
     """What to do after a refusal by the check of this name."""
     return checks()[name].advice
@@ -67,4 +85,5 @@ def advice_for(name: str) -> str:
 
 def meanings(names: Iterable[str]) -> dict[str, str]:
     """Of each of these checks, what it means and what to do, each once."""
-    return {name: f"{checks()[name].meaning} {advice_for(name)}" for name in dict.fromkeys(names)}
+    there = checks_told()
+    return {name: f"{there[name].meaning} {there[name].advice}" for name in dict.fromkeys(names)}

@@ -15,6 +15,7 @@ from dataclasses import dataclass, field
 from pathlib import Path
 from typing import NamedTuple
 
+from registry_tools import voice
 from registry_tools.errors import WordsFault, escaped, shown
 from registry_tools.texts.in_words import as_looked_up
 from registry_tools.texts.rows import Rows, rows_of
@@ -97,7 +98,7 @@ class Labels:
         found = self.of_words(word, *kinds)
         if not found:
             what = " or ".join(kinds or KINDS)
-            raise WordsFault(f"{shown(word)} names no {what}: ./day label lists the names")
+            raise WordsFault(f"{shown(word)} names no {what}: {voice.command('label')} lists the names")
         if len(found) > 1:
             several = "; ".join(map(str, found))
             raise WordsFault(f"{shown(word)} may be {several}: say more of the name, or the number")
