@@ -1,180 +1,261 @@
-"""What a hostile colleague tries who may write the folder of days: to be two people. Each attempt says what it must
-get."""
+"""What other logins on the machine try with a folder of days that one login owns: to look into it, to change it, to have
+its owner open something of theirs in its place or run a program of theirs; and to be two people. Each attempt says what
+it must get."""
 from __future__ import annotations
 
-from collections.abc import Iterator
+import os
+import shutil
+from collections.abc import Callable, Iterator
+from dataclasses import replace
 from pathlib import Path
 
-from colleagues import ACT, MONDAY, TUESDAY, Shared, must_get, shared, sum_of
+from colleagues import ACT, MONDAY, RULES, TUESDAY, WEEK, Owned, must_get, must_run, owned
+from harness import Said, differs
 from logins import Login, made
+from offices import FILE, JOURNAL, must_do, told, unchanged
+from second_login import LOGIN, file_of, with_lines
 
 Attempts = Iterator[tuple[str, object]]
 WHY = ["--why", "a slip"]
+CLOSE = ["close", "--date", TUESDAY]
+CHANGE = ["change", "100210", "--holder", "5503", *WHY, "--yes"]
+# What others must not read or write: its words are in no answer.
+SECRET = "[office]\nlayout = 1\nprogram = the-secret-of-bert\n"
+# What is put in the place of another thing by each login's own hands.
+LINK = """
+import shutil
+place, to = sys.argv[1:]
+shutil.rmtree(place) if os.path.isdir(place) and not os.path.islink(place) else os.path.lexists(place) and os.unlink(place)
+os.symlink(to, place)
+"""
 BLOCK = "account,300126,trading,9017,open,no,no,0,0,0\nuser,4201,both\n"
+
+
+# Other logins.
+
+
+def stranger_attempts(work: Path) -> Attempts:
+    """Nobody but its owner looks into a folder or changes it: neither who shares a group, nor who does not, nor root."""
+    with made("anna", "bert", "cora") as logins:
+        base = owned(work, logins)
+        acts = base.file("acts.csv", ACT.format(1))
+        commands: list[list[object]] = [
+            ["status"], ["find"], ["audit"], ["balance", "100210"], ["hand-in", acts], CHANGE, CLOSE,
+            ["undo", MONDAY, *WHY], ["approve", "1"], ["backup", "/tmp/rgy-copy"], ["unpack", "/tmp/rgy-unpacked"],
+            ["label", "holder", "5501", "X", *WHY], ["release", MONDAY, "--yes", *WHY], ["desk"],
+        ]  # fmt: skip
+        for name, mode, way in (
+            ("closed", 0o700, []), ("that all may read", 0o755, []), ("that a group may write", 0o770, ["chmod go-w"]),
+        ):  # fmt: skip
+            base.path.chmod(mode)
+            for login, who in ((base.anna, "a colleague"), (base.cora, "a stranger")):
+                for words in commands:
+                    # (who comes as far is told whose it is)
+                    has = ["found a file or folder of another login"] if mode == 0o755 and words[0] != "desk" else []
+                    yield f"{who} at a folder {name}: {words[0]}", base.refuses(login, has, *words)
+            if mode == 0o770:
+                for words in (["status"], CLOSE):
+                    yield f"its owner, at a folder {name}: {words[0]}", base.refuses(base.bert, way, *words)
+        base.path.chmod(0o700)
+        has = [f"{base.path}: found a file or folder of another login"]
+        for word in ("status", "audit", "find"):
+            yield f"root: {word}", unchanged(base.path, 3, has, word, *base.own)
+        yield "init in its place", base.refuses(base.anna, [], "init", base.path, WEEK / "monday.csv")
+        yield "its owner", base.gets(base.bert, 0, [": 0 differences"], "audit")
+
+
+# Something of theirs in its place.
+
+
+def link_attempts(work: Path) -> Attempts:
+    """A folder, file or link of another login in the place of one's own is refused by its name, and what a link leads to
+    stays as it is."""
+    with made("anna", "bert", "cora") as logins:
+        base = owned(work, logins)
+        acts, secret = base.file("acts.csv", ACT.format(1)), secret_of(base)
+        for name, words in (
+            (FILE, ["status"]), (FILE, CLOSE), (FILE, ["audit"]), (JOURNAL, CHANGE), (JOURNAL, ["status"]),
+            ("office.ini", ["status"]), ("office.ini", CLOSE), (FILE, ["hand-in", acts]), (FILE, ["undo", MONDAY, *WHY]),
+        ):  # fmt: skip
+            folder = base.copy("links")
+            base.bert.does(LINK, folder.path / name, secret)
+            ended, says = base.bert.day(*words, *folder.own)
+            is_told = ended in (1, 3) and f"{folder.path / name}: " in says and "a link" in says
+            yield f"{name} is a link, {words[0]}", None if is_told else f"status {ended}: {says[-600:]}"
+            yield f"{name} is a link, {words[0]}: what it leads to", untouched(secret, says)
+        yield from of_others_attempts(base)
+        yield from no_file_attempts(base)
+        yield from answer_attempts(base, secret)
+
+
+def secret_of(base: Owned) -> Path:
+    """A file that bert alone may read and write."""
+    path = base.path.parent / "secret"
+    base.bert.does("p, c = sys.argv[1:]\nopen(p, 'w').write(c)\nos.chmod(p, 0o600)", path, SECRET)
+    return path
+
+
+def untouched(secret: Path, says: str) -> object:
+    """Whether bert's file is as it was, and nothing of it is told."""
+    return differs(secret.read_text(), SECRET) or ("it is told" if "the-secret" in says else None)
+
+
+def of_others_attempts(base: Owned) -> Attempts:
+    """A folder that anna made stands where bert's was, or its file does."""
+    room = base.work / "anna"
+    room.mkdir()
+    shutil.chown(room, base.anna.user, base.anna.group)
+    room.chmod(0o755)
+    theirs = replace(base, path=room / "office")
+    must_get(None if base.anna.day("init", theirs.path, WEEK / "monday.csv")[0] == 0 else "no folder")
+    theirs.path.chmod(0o755)
+    (theirs.path / FILE).chmod(0o644)
+    (theirs.path / "office.ini").chmod(0o644)
+    has = [f"{theirs.path}: found a file or folder of another login"]
+    for words in (["status"], ["close", "--date", MONDAY, "--second"], ["find"]):
+        yield f"a folder of anna's, {words[0]}", theirs.refuses(base.bert, has, *words)
+    folder = base.copy("of-anna")
+    shutil.copy2(theirs.path / FILE, folder.path / FILE)
+    shutil.chown(folder.path / FILE, base.anna.user, base.anna.group)
+    has = [f"{folder.path / FILE}: found a file or folder of another login"]
+    yield "a file of anna's in bert's folder", folder.refuses(base.bert, has, "status")
+
+
+def no_file_attempts(base: Owned) -> Attempts:
+    """What is no plain file, and a file that has another name elsewhere."""
+    folder = base.copy("pipe")
+    base.bert.does("p = sys.argv[1]\nos.unlink(p)\nos.mkfifo(p, 0o600)", folder.path / FILE)
+    yield "a pipe", folder.gets(base.bert, 3, [f"{FILE}: found no plain file"], "status")
+    folder = base.copy("hard")
+    os.link(folder.path / FILE, base.path.parent / "second-name")
+    yield "a second name elsewhere", folder.refuses(base.bert, ["a file that has another name elsewhere"], *CHANGE)
+    folder = base.copy("folder")
+    base.bert.does("p = sys.argv[1]\nos.unlink(p)\nos.mkdir(p)", folder.path / FILE)
+    yield "a folder", folder.gets(base.bert, 3, [f"{FILE}: found no plain file"], "status")
+
+
+def answer_attempts(base: Owned, secret: Path) -> Attempts:
+    """Answers that are written where others may make files: what lies there as a link is not written through."""
+    room = base.work / "for-all"
+    room.mkdir()
+    room.chmod(0o1777)
+    for name, words in (
+        ("copy.sqlite", ["backup"]), ("days.sqlite", ["db"]), ("plain", ["unpack"]),
+    ):  # fmt: skip
+        base.anna.does("p, q = sys.argv[1:]\nos.symlink(q, p)", room / name, secret)
+        ended, says = base.bert.day(*words, room / name, *base.own)
+        yield f"a link where {words[0]} writes", untouched(secret, "") or ("Traceback" in says and says)
+    aside = room / f".x.csv.{os.getpid()}.day-unfinished"
+    base.anna.does("p, q = sys.argv[1:]\nos.symlink(q, p)", aside, secret)
+    said = Said("log", WEEK / "monday-report.csv", "--to", room / "x.csv")
+    yield "a link where an answer is written first", (None if said.status == 0 else said) or untouched(secret, "")
+
+
+# A program of their own.
+
+
+def program_attempts(work: Path) -> Attempts:
+    """What office.ini names is run only if nobody else could have changed it."""
+    with made("anna", "bert", "cora") as logins:
+        yield from changed_by_others(owned(work, logins))
+
+
+def planted(base: Owned, login: Login, path: Path, mode: int = 0o755) -> Path:
+    """A program that leaves a mark if it is run."""
+    text = f"#!/bin/sh\ntouch {base.path.parent / 'ran'}\nexec {RULES} \"$@\"\n"
+    login.does("p, c, m = sys.argv[1:]\nopen(p, 'w').write(c)\nos.chmod(p, int(m))", path, text, mode)
+    return path
+
+
+def not_run(base: Owned, has: list[str], *words: str) -> object:
+    """What is wrong, if a command runs the program or does not say why it does not."""
+    mark = base.path.parent / "ran"
+    mark.unlink(missing_ok=True)
+    wrong = base.gets(base.bert, 1 if words[0] == "audit" else 3, has, *words)
+    return "it was run" if mark.exists() else wrong
+
+
+def changed_by_others(base: Owned) -> Attempts:
+    """The folder is bert's alone; the program, or a folder or link on the way, is not."""
+    bert, anna = base.bert, base.anna
+    settings = base.path / "office.ini"
+    own = settings.read_text()
+    rooms = {name: base.work / name for name in ("closed", "opened", "sticky", "ways")}
+    for name, mode in (("closed", 0o755), ("opened", 0o775), ("sticky", 0o1777), ("ways", 0o775)):
+        rooms[name].mkdir()
+        must_run("chgrp", str(bert.group), str(rooms[name]))
+        rooms[name].chmod(mode)
+    good = rooms["closed"] / "good"
+    shutil.copy2(RULES, good)
+    (rooms["ways"] / "way").symlink_to(rooms["closed"])
+    (rooms["closed"] / "way").symlink_to(rooms["ways"] / "way")
+    attempts: list[tuple[str, Path, str]] = [
+        ("that a group may write", planted(base, bert, rooms["opened"] / "mine", 0o775), "the group "),
+        ("that everybody may write", planted(base, bert, rooms["sticky"] / "for-all", 0o757), "everybody"),
+        ("in a folder that a group may write", planted(base, bert, rooms["opened"] / "own"), "the group "),
+        ("of a colleague", planted(base, anna, rooms["sticky"] / "hers"), anna.name),
+        ("behind a link that others may replace", rooms["ways"] / "way" / "good", "the group "),
+        ("behind a link to such a link", rooms["closed"] / "way" / "good", "the group "),
+    ]
+    for name, program, who in attempts:
+        settings.write_text(own.replace(str(RULES), str(program)))
+        has = ["office.ini: program: found ", f"may be written by {who}"]
+        for words in (CLOSE, ["audit", "--settle"]):
+            yield f"a program {name}, {words[0]}", not_run(base, has, *words)
+    let = replace(base, let={"REGISTRY_PROGRAMS": "/nowhere"})
+    yield "although another one is let", not_run(let, has, *CLOSE)
+    settings.write_text(own.replace(str(RULES), str(planted(base, bert, rooms["sticky"] / "mine"))))
+    yield "a program of one's own in a folder for all", base.gets(bert, 0, [f"{TUESDAY} is settled"], *CLOSE)
 
 
 # One person as two.
 
 
 def second_person_attempts(work: Path) -> Attempts:
-    """Nobody is the second pair of eyes for their own rows: whatever files of the folder they write by hand."""
-    with made("anna", "bert", "cora") as logins:
-        yield from correct_attempts(work, logins)
-        yield from forged_row_attempts(work, logins)
-        yield from passed_on_attempts(work, logins)
-        yield from by_hand_attempts(work, logins)
-
-
-def correct_attempts(work: Path, logins: tuple[Login, ...]) -> Attempts:
     """What a correction adds needs the right and the second one that a hand-in and a change need."""
     correct = ["correct", MONDAY, *WHY, "--second", "--yes", "--with"]
-    folder = shared(work, logins, {"a": "close", "b": "all", "c": "all"})
-    acts, block = folder.file("acts.csv", ACT.format(1).replace("09-23", "09-22")), folder.file("block.csv", BLOCK)
-    yield "correct hands in without the right", folder.refuses(
-        folder.anna, 2, ["may close, and not hand in"], *correct, acts
-    )
-    yield "correct changes without the right", folder.refuses(
-        folder.anna, 2, ["may close, and not change"], *correct, block
-    )
-    folder = shared(work, logins, {"a": "close, hand in", "b": "close", "c": "all"}, "hand-in")
-    asked = ["is asked for, and waits for", folder.cora.name]
-    yield "correct hands in alone", folder.gets(folder.anna, 1, asked, *correct, acts)
-    yield "and nothing is done", folder.gets(folder.cora, 0, ["events 1, days 1"], "audit")
+    acts, block = file_of(work, "acts.csv", ACT.format(1).replace("09-23", "09-22")), file_of(work, "block.csv", BLOCK)
+    office, own = of_people(work, "rights", {"anna": "close", "bert": "all", "cora": "all"})
+    anna, bert, cora = (["--for", name] for name in ("anna", "bert", "cora"))
+    for path, right in ((acts, "hand in"), (block, "change")):
+        has = [f"may close, and not {right}"]
+        yield f"correct without the right {right}", unchanged(office, 2, has, *correct, path, *anna, *own)
+    office, own = of_people(work, "eyes", {"anna": "close, hand in", "bert": "close", "cora": "all"}, "hand-in")
+    asked = ["is asked for, and waits for", "cora"]
+    yield "correct hands in alone", told(1, asked, *correct, acts, *anna, *own)
+    yield "and nothing is done", told(0, ["events 1, days 1"], "audit", *own)
     approve = ["approve", "correct", "--date", MONDAY]
-    yield "it approves itself", folder.refuses(folder.anna, 2, ["another login approves it"], *approve)
-    yield "who may close approves what is handed in", folder.refuses(
-        folder.bert, 2, ["may close, and not hand in"], *approve
-    )
-    yield "who may hand in approves it", folder.gets(folder.cora, 0, ["approved: correct"], *approve)
-    other = folder.file("acts.csv", ACT.format(2).replace("09-23", "09-22"))
-    yield "other rows under the same name", folder.gets(folder.anna, 1, asked, *correct, other)
-    folder.file("acts.csv", ACT.format(1).replace("09-23", "09-22"))
-    yield "what was approved", folder.gets(folder.anna, 0, [f"{MONDAY} is corrected"], *correct, acts)
+    yield "it approves itself", unchanged(office, 2, ["another login approves it"], *approve, *anna, *own)
+    has = ["may close, and not hand in"]
+    yield "who may close approves what is handed in", unchanged(office, 2, has, *approve, *bert, *own)
+    yield "who may hand in approves it", told(0, ["approved: correct"], *approve, *cora, *own)
+    file_of(work, "acts.csv", ACT.format(2).replace("09-23", "09-22"))
+    yield "other rows under the same name", told(1, asked, *correct, acts, *anna, *own)
+    file_of(work, "acts.csv", ACT.format(1).replace("09-23", "09-22"))
+    yield "what was approved", told(0, [f"{MONDAY} is corrected"], *correct, acts, *anna, *own)
+    yield from passed_on_attempts(work)
 
 
-def forged_row_attempts(work: Path, logins: tuple[Login, ...]) -> Attempts:
-    """A login in the journal of next/ is believed only if the system says it, too."""
-    base = shared(work, logins, {"a": "all", "b": "all", "c": "all"}, "hand-in")
-    acts, anna, bert = base.file("acts.csv", ACT.format(1)), base.anna, base.bert
-    must_get(base.gets(anna, 0, ["place 1 waits for"], "hand-in", acts))
-    nobody = ["nobody knows who handed it in"]
-    folder = base.copy("row")
-    replace_in(anna, folder.next / "journal.csv", anna.name, bert.name)
-    yield "another login in the journal of next/", folder.refuses(anna, 2, nobody, "approve", "1")
-    yield "told as what nobody knows", folder.gets(anna, 0, [f"LOGIN: found '{bert.name}'"], "status")
-    yield "found by audit", folder.gets(bert, 1, [f"LOGIN: found '{bert.name}'", "1 difference"], "audit")
-    yield "no second one counts", folder.gets(bert, 2, nobody, "approve", "1")
-    yield "a close leaves it out", folder.gets(
-        bert, 1, ["not in this day, and waits for another login: place 1"], "close", "--date", TUESDAY
-    )
-    folder = base.copy("said")
-    forge_said(folder, anna, bert)
-    yield "the file of another login, by hand", folder.refuses(anna, 2, nobody, "approve", "1")
-    folder = base.copy("own")
-    replace_in(anna, folder.next / "journal.csv", anna.name, bert.name)
-    replace_in(anna, folder.next / said_by(anna), anna.name, bert.name)
-    yield "another login in one's own file", folder.refuses(anna, 2, nobody, "approve", "1")
-    folder = base.copy("linked")
-    forge_said(folder, anna, bert)
-    theirs = folder.next / said_by(bert)
-    anna.does("p, q = sys.argv[1:]\nos.rename(p, q)\nos.symlink(q, p)", theirs, folder.path / "aside")
-    yield "a link to such a file", folder.refuses(anna, 2, nobody, "approve", "1")
-    yield from earlier_file_attempts(base)
-    yield from rows_changed_attempts(base)
+def passed_on_attempts(work: Path) -> Attempts:
+    """What waits when a day is filed is told by who filed it: who handed it in is not the second one behind it."""
+    office, own = of_people(work, "passed", {"anna": "all", "bert": "all", "cora": "all"}, "hand-in")
+    anna, bert, cora = (["--for", name] for name in ("anna", "bert", "cora"))
+    must_get(told(0, ["place 1 waits"], "hand-in", file_of(work, "more.csv", ACT.format(1)), *anna, *own))
+    must_get(told(0, ["is settled"], *CLOSE, "--second", "--yes", *bert, *own))
+    yield "who handed it in, behind another day", unchanged(office, 2, ["asked for it"], "approve", "1", *anna, *own)
+    yield "another one may", told(0, ["approved: place 1"], "approve", "1", *cora, *own)
 
 
-def earlier_file_attempts(base: Shared) -> Attempts:
-    """What somebody said behind another day, or of other rows, is not said of these."""
-    folder, anna, bert = base.copy("earlier"), base.anna, base.bert
-    more = base.file("more.csv", ACT.format(7))
-    must_get(folder.gets(bert, 0, ["waits for"], "hand-in", more))
-    theirs = folder.next / said_by(bert)
-    anna.does("p, q = sys.argv[1:]\nos.rename(p, q)", theirs, folder.path / "kept")
-    anna.does("p = sys.argv[1]\nos.path.exists(p) and os.unlink(p)", folder.next / "0002-do.csv")
-    text = (folder.next / "journal.csv").read_text().splitlines(True)
-    anna.writes(folder.next / "journal.csv", "".join(row for row in text if bert.name not in row))
-    must_get(folder.gets(base.cora, 0, ["is settled"], "close", "--date", TUESDAY, "--yes"))
-    replace_in(anna, folder.next / "journal.csv", f"{base.cora.name}:{anna.name}", bert.name)
-    anna.does("p, q = sys.argv[1:]\nos.rename(p, q)", folder.path / "kept", theirs)
-    yield "what another login said of an earlier day", folder.refuses(
-        anna, 2, ["nobody knows who handed it in"], "approve", "1"
-    )
+def of_people(work: Path, name: str, rights: dict[str, str], four_eyes: str = "") -> tuple[Path, list[str]]:
+    """A folder of this login, which speaks for these people."""
+    office = work / name
+    own = ["--office", str(office)]
+    must_do(["init", str(office), str(WEEK / "monday.csv")], ["close", "--date", MONDAY, "--second", *own])
+    with_lines(office, {**{login: f"{login}: {words}" for login, words in rights.items()}, LOGIN: "x: proxy"}, four_eyes)
+    return office, own
 
 
-def rows_changed_attempts(base: Shared) -> Attempts:
-    """Rows that were changed after they were handed in, or approved, do not count."""
-    folder, anna, bert = base.copy("changed"), base.anna, base.bert
-    rows = folder.next / "0001-do.csv"
-    anna.does("p, c = sys.argv[1:]\nopen(p, 'r+').write(c)", rows, ACT.format(9))
-    has = ["0001-do.csv: SHA-256: found ", "somebody changed it after it was handed in"]
-    yield "rows changed after they were handed in", folder.refuses(bert, 3, has, "approve", "1")
-    folder = base.copy("again")
-    must_get(folder.gets(bert, 0, ["approved: place 1"], "approve", "1"))
-    old, new = sum_of(ACT.format(1)), sum_of(ACT.format(9))
-    anna.does("p, c = sys.argv[1:]\nopen(p, 'r+').write(c)", folder.next / "0001-do.csv", ACT.format(9))
-    for name in ("journal.csv", said_by(anna)):
-        replace_in(anna, folder.next / name, old, new)
-    yield "rows changed after they were approved", folder.gets(anna, 0, ["place 1, hand-in by", "waits for"], "approve")
-    asked = folder.next / f"asked-undo-{MONDAY}.csv"
-    anna.writes(asked, f"asked,x,x,{bert.name},undo,{MONDAY},,x,x,\n")
-    yield "a command asked for in another's name", folder.refuses(
-        anna, 2, ["nobody asked for undo"], "approve", "undo", "--date", MONDAY
-    )
-
-
-def passed_on_attempts(work: Path, logins: tuple[Login, ...]) -> Attempts:
-    """What waits when a day is filed is told by who filed it: neither that one nor who handed it in is the second."""
-    folder = shared(work, logins, {"a": "all", "b": "all", "c": "all"}, "hand-in")
-    anna, bert = folder.anna, folder.bert
-    must_get(folder.gets(anna, 0, ["place 1 waits"], "hand-in", folder.file("acts.csv", ACT.format(1))))
-    must_get(folder.gets(bert, 0, ["is settled"], "close", "--date", TUESDAY, "--yes"))
-    yield "who handed it in, behind another day", folder.refuses(anna, 2, ["asked for it"], "approve", "1")
-    yield "who filed that day", folder.refuses(bert, 2, [f"{bert.name} passed it on"], "approve", "1")
-    forged = folder.copy("forged")
-    for name in ("journal.csv", said_by(bert)):
-        text = (forged.next / name).read_text()
-        anna.writes(forged.next / name, text.replace(f"{bert.name}:{anna.name}", f"{bert.name}:{forged.cora.name}"))
-    yield "another login in what was passed on", forged.refuses(anna, 2, ["nobody knows who"], "approve", "1")
-    yield "a third one may", folder.gets(folder.cora, 0, ["approved: place 1"], "approve", "1")
-
-
-def by_hand_attempts(work: Path, logins: tuple[Login, ...]) -> Attempts:
-    """Rows that are put into next/ by hand count as those of who wrote them, with the rights of that one."""
-    folder = shared(work, logins, {"a": "look", "b": "all", "c": "hand in"})
-    anna, bert, cora = folder.anna, folder.bert, folder.cora
-    base = (folder.next / "journal.csv").read_text().splitlines()[0]
-    row = f"handed,2025-09-23T08:00:00Z,x,do,1,1,,0001-do.csv,{sum_of(ACT.format(1))},acts.csv,{{}}\n"
-    for name, login in (("as oneself", anna), ("as another one", bert), ("as nobody", None)):
-        forged, by = folder.copy("by-hand"), login.name if login else ""
-        anna.writes(forged.next / "0001-do.csv", ACT.format(1))
-        anna.writes(forged.next / "journal.csv", f"{base}\n{row.format(by)}")
-        anna.writes(forged.next / said_by(anna), f"{base}\n{row.format(by)}")
-        left = ["not in this day, and waits for another login: place 1"]
-        yield f"rows by hand, {name}", forged.gets(bert, 1, left, "close", "--date", TUESDAY)
-    must_get(folder.gets(cora, 0, ["handed in: acts.csv"], "hand-in", folder.file("acts.csv", ACT.format(1))))
-    text = (folder.next / "journal.csv").read_text()
-    anna.writes(folder.next / "journal.csv", f"{text}taken,2025-09-23T08:00:00Z,x,1,y,{cora.name}\n")
-    yield "taken back in another's name", folder.gets(bert, 1, [f"LOGIN: found '{cora.name}'"], "audit")
-
-
-def replace_in(login: Login, path: Path, old: str, new: str) -> None:
-    """Has a login write a file once more, with one word for another."""
-    if path.exists():
-        text = path.read_text()
-        assert old in text, (path, old)
-        login.writes(path, text.replace(old, new))
-
-
-def forge_said(folder: Shared, forger: Login, other: Login) -> None:
-    """Has a login write the file by which another one would say that the rows are theirs."""
-    text = (folder.next / "journal.csv").read_text().replace(forger.name, other.name)
-    for name in ("journal.csv", said_by(other)):
-        forger.writes(folder.next / name, text)
-
-
-def said_by(login: Login) -> str:
-    """The name of the file in next/ by which a login says what it has done."""
-    return f"said-{sum_of(login.name)[:16]}.csv"
-
-
-PARTS = (("one person as two", second_person_attempts),)
+PARTS: tuple[tuple[str, Callable[[Path], Attempts]], ...] = (
+    ("strangers", stranger_attempts), ("links", link_attempts), ("programs", program_attempts),
+    ("one person as two", second_person_attempts),
+)  # fmt: skip

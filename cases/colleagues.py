@@ -1,4 +1,4 @@
-"""Folders of days that a group may write, and the colleagues in it, for trials of what a hostile one can do."""
+"""A folder of days that one login owns, and other logins on the same machine, for trials of what hostile ones can do."""
 from __future__ import annotations
 
 import hashlib
@@ -9,18 +9,15 @@ from pathlib import Path
 
 from harness import TOP
 from logins import Login
-from offices import must_do
 
 WEEK, RULES = TOP / "examples" / "week", TOP / "tools" / "rules.py"
 MONDAY, TUESDAY = "2025-09-22", "2025-09-23"
 ACT = "do,2025-09-23,5101,5102,surrender,100210,general,{}\n"
-# Whoever works here lets the program of the folder be run, whoever may write the folder.
-LET = {"REGISTRY_PROGRAMS": str(RULES)}
 
 
 @dataclass
-class Shared:
-    """A folder that a group may write, with one settled day and the colleagues who may do what office.ini says."""
+class Owned:
+    """A folder of bert's, with one settled day; anna is in his group, and cora in no group of his."""
 
     path: Path
     work: Path
@@ -28,19 +25,15 @@ class Shared:
     bert: Login
     cora: Login
     # The variables with which everybody works.
-    let: dict[str, str] = field(default_factory=lambda: LET)
+    let: dict[str, str] = field(default_factory=dict)
 
     @property
     def own(self) -> list[str]:
         return ["--office", str(self.path)]
 
-    @property
-    def next(self) -> Path:
-        return self.path / "next"
-
-    def copy(self, name: str) -> Shared:
+    def copy(self, name: str) -> Owned:
         """The same folder once more, with the owners of its files."""
-        path = self.work / name
+        path = self.path.parent / name
         shutil.rmtree(path, ignore_errors=True)
         must_run("cp", "-a", str(self.path), str(path))
         return replace(self, path=path)
@@ -59,16 +52,17 @@ class Shared:
         return f"status {ended}, {lacking} lack: {says[-900:]}" if lacking or ended != status else None
 
     def stands(self) -> dict[str, bytes]:
-        """All that counts in the folder: what a look leaves is not part of it."""
-        kept = (path for path in self.path.rglob("*") if path.name not in ("lock", "looked.csv"))
-        return {str(path.relative_to(self.path)): path.read_bytes() for path in kept if path.is_file()}
+        """All that the folder has."""
+        files = (path for path in self.path.rglob("*") if path.is_file() and not path.is_symlink())
+        return {str(path.relative_to(self.path)): path.read_bytes() for path in files}
 
-    def refuses(self, login: Login, status: int, has: list[str], *words: object) -> object:
-        """As `gets`, and nothing has changed."""
-        before = self.stands()
-        wrong, after = self.gets(login, status, has, *words), self.stands()
-        changed = {name for name in before.keys() | after.keys() if before.get(name) != after.get(name)}
-        return wrong or (f"changed: {sorted(changed)}" if changed else None)
+    def refuses(self, login: Login, has: list[str], *words: object) -> object:
+        """What is wrong, if a command is not refused with these words, tells anything of a day, or changes something."""
+        before, (ended, says) = self.stands(), login.day(*words, *self.own, **self.let)
+        lacking = [part for part in has if part not in says]
+        if ended not in (2, 3) or lacking or "Traceback" in says or "records 610" in says:
+            return f"status {ended}, {lacking} lack: {says[-900:]}"
+        return None if self.stands() == before else "something has changed"
 
 
 def must_run(*words: str) -> None:
@@ -76,20 +70,23 @@ def must_run(*words: str) -> None:
     subprocess.run(words, check=True)
 
 
-def shared(work: Path, logins: tuple[Login, ...], rights: dict[str, str], four_eyes: str = "") -> Shared:
-    """A folder for a group, as docs/FORMATS.md says it: a group that may write it. Its first day is settled."""
-    path = work / "office"
-    shutil.rmtree(path, ignore_errors=True)
-    must_do(["init", str(path), str(WEEK / "monday.csv"), "--program", str(RULES)])
-    must_do(["close", "--date", MONDAY, "--office", str(path)])
-    lines = [f"{login.name} = {login.name.title()}: {rights[name]}" for name, login in zip("abc", logins)]
-    text = (path / "office.ini").read_text() + "\n".join(["[people]", *lines, ""])
-    text += f"[four eyes]\ncommands = {four_eyes}\n" if four_eyes else ""
-    (path / "office.ini").write_text(text)
-    must_run("chgrp", "-R", str(logins[0].group), str(path))
-    must_run("chmod", "-R", "g+w", str(path))
+def owned(work: Path, logins: tuple[Login, ...]) -> Owned:
+    """A folder that bert made, in a folder of his in which others may look around."""
     anna, bert, cora = logins[:3]
-    return Shared(path, work, anna, bert, cora)
+    work.chmod(0o755)
+    place = work / "bert"
+    shutil.rmtree(place, ignore_errors=True)
+    place.mkdir()
+    shutil.chown(place, bert.user, bert.group)
+    place.chmod(0o755)
+    made = Owned(place / "office", work, anna, bert, replace(cora, group=65_534))
+    must_get(without_folder(bert.day("init", made.path, WEEK / "monday.csv", "--program", RULES)))
+    must_get(without_folder(bert.day("close", "--date", MONDAY, "--second", *made.own)))
+    return made
+
+
+def without_folder(said: tuple[int, str]) -> str | None:
+    return None if said[0] == 0 else f"status {said[0]}: {said[1]}"
 
 
 def sum_of(text: str) -> str:
