@@ -22,13 +22,12 @@ from registry_tools.older.folder import TABLES, Folder, alone, opened
 from registry_tools.older.handed import CHANGES, FIRST, KINDS, HandedIn, Part
 from registry_tools.output import name_beside, remove_left
 from registry_tools.progress import progress
-from registry_tools.questions.audit import Filed, compare_texts, look_at_day
+from registry_tools.questions.audit import Filed, compare_texts, look_at_day, past_day_of
 from registry_tools.store import daybook, events, file
 from registry_tools.store.events import (
     APPROVED, ASKED, FILED, HANDED, LABELLED, NO_DATE, RELEASED, SOURCE, TAKEN, UNDONE, UPGRADED, Event,
 )  # fmt: skip
 from registry_tools.store.file import Store
-from registry_tools.store.past import PastDay
 from registry_tools.texts.rows import bytes_of, rows_of_text, sum_of, text_of_rows
 
 # How gzip begins what it packs without a name and a time, and how much stands behind it: the sum and the size.
@@ -191,8 +190,7 @@ class Making:
     def add_day(self, event: Event, read: Filed, before: Filed | None) -> None:
         """Puts a day into the tables of questions."""
         _, day, report = read
-        past_day = PastDay(day, report, *((before[2], before[1].heading) if before else (None, [])))
-        daybook.add_day(self.store.db, past_day, (event.text, event.report))
+        daybook.add_day(self.store.db, past_day_of(day, report, before), (event.text, event.report))
 
     # What was handed in.
 

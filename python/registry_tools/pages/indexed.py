@@ -54,6 +54,6 @@ def days_of(days: Days, number: int, most: int) -> list[IndexedDay]:
 def held_before(days: Days, account: AccountOverTime, date: datetime.date) -> dict[str, int] | None:
     """What an account held before a day; None, if it was not there."""
     if date == days.dates[0]:
-        rows = days.first_text.get(account.number)
+        rows = days.first_rows(account.number)
         return dict(zip(rules.KINDS, map(int, rows[0].split(",")[HELD]))) if rows else None
     return dict(zip(rules.KINDS, account.held_before(str(date)))) if account.place(str(date)) >= 0 else None

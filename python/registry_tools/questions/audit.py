@@ -238,9 +238,13 @@ def look_at_days(found: Found, asked: Audit) -> None:
 def add_again(again: Again, own: Filed, before: Filed | None) -> None:
     """Makes the rows of a day once more."""
     event, day, report = own
-    past_day = PastDay(day, report, *((before[2], before[1].heading) if before else (None, [])))
-    daybook.add_day(again.db, past_day, (event.text, event.report), "again.")
+    daybook.add_day(again.db, past_day_of(day, report, before), (event.text, event.report), "again.")
     again.db.execute("INSERT INTO again.compared VALUES (?)", (str(event.date),))
+
+
+def past_day_of(day: DayText, report: Report, before: Filed | None) -> PastDay:
+    """A day with its report, and with the day before it, if that was read."""
+    return PastDay(day, report, *((before[2], before[1].heading) if before else (None, [])))
 
 
 def strange_days(found: Found) -> Iterator[FileFault]:
@@ -256,8 +260,10 @@ def look_at_day(found: Found, event: Event, before: Filed | None, by_program: bo
     day = read_day(found.text_of(event, "text"), before and before[2].known(before[1]))
     report = read_report(found.text_of(event, "report"), day)
     found.pairs += 1
-    mend = found.mending(event.date)
-    found.add(*differences(day, report), mend=mend)
+    mend, past_day = found.mending(event.date), past_day_of(day, report, before)
+    # (as long as nothing was found, the totals of the report before are the sums over its accounts)
+    sums = past_day.sums() if before and not found.faults else None
+    found.add(*differences(day, report, sums), mend=mend)
     for name, there, expected in (
         ("date", day.head.date, event.date),
         ("first", day.head.next_record, event.first),
@@ -267,7 +273,7 @@ def look_at_day(found: Found, event: Event, before: Filed | None, by_program: bo
             says = f"{expected}, as {found.says()} says"
             found.add(FileFault(day.path, day.line_of_tag("day"), name, there, says), mend=mend)
     look_at_seam(found, event, day, report, before)
-    text = bytes_of(report.path)
+    text = bytes_of(report.path) if by_program or by_second else b""
     if by_program:
         # (the pair was read: the next day is looked at behind it)
         with found.adding(mend):

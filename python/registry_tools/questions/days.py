@@ -44,6 +44,13 @@ class Days:
             own.append(row)
         return found
 
+    def first_rows(self, number: int) -> list[str]:
+        """The rows of one account in the text of the first day; none, if it was not there."""
+        rows, begins = rows_of(self.pairs[self.dates[0]].day).rows if self.pairs else [], f"account,{number},"
+        first = next((place for place, row in enumerate(rows) if row.startswith(begins)), len(rows))
+        end = next((at for at in range(first + 1, len(rows)) if rows[at].startswith(("account,", "do,", "end"))), first)
+        return rows[first:end]
+
     def close(self) -> None:
         """Lets the tables go."""
         self.database.close()

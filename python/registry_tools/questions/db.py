@@ -33,21 +33,25 @@ def make(days: Days, path: str) -> Made:
         there, own = days_there(path), days.database.execute(DAYS_IN).fetchall()
         compare(path, there, own, days)
         with made_aside(path) as beside:
-            with contextlib.closing(sqlite3.connect(beside, isolation_level=None)) as target:
-                target.executescript(f"BEGIN; {daybook.schema()}")
+            with contextlib.closing(sqlite3.connect(beside.as_uri(), isolation_level=None, uri=True)) as target:
                 copy(days.database, target)
-                target.execute("COMMIT")
     except sqlite3.Error as error:
         raise of_file(path, f"this database cannot be written: {error}") from None
     return Made(len(own), len(own) - len(there))
 
 
 def copy(database: sqlite3.Connection, target: sqlite3.Connection) -> None:
-    """Puts all rows into a database with empty tables."""
+    """Makes a copy of the tables: of a database in memory as it is, and of the file of a folder without all else."""
+    _, _, path = database.execute("PRAGMA database_list").fetchone()
+    if not path:
+        database.backup(target)
+        return
+    target.executescript(f"BEGIN; {daybook.schema()} COMMIT")
+    target.execute("ATTACH ? AS folder", (f"{Path(path).as_uri()}?mode=ro",))
+    target.execute("BEGIN")
     for table in TABLES:
-        rows = database.execute(f"SELECT * FROM {table}")
-        marks = ",".join("?" * len(rows.description))
-        target.executemany(f"INSERT INTO {table} VALUES ({marks})", rows)
+        target.execute(f"INSERT INTO main.{table} SELECT * FROM folder.{table}")
+    target.execute("COMMIT")
 
 
 @contextlib.contextmanager

@@ -21,7 +21,7 @@ def history(days: Days, account: int, name_of: Callable[[object], str] = str) ->
 
 def first_row(days: Days, account: int) -> Iterator[list[Cell]]:
     """The account as the first text has it, if it has it."""
-    for row in days.first_text.get(account, [])[:1]:
+    for row in days.first_rows(account)[:1]:
         yield [str(days.dates[0]), None, f"first text: {row}", BY_HAND, *map(int, row.split(",")[HELD])]
 
 
