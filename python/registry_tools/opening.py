@@ -91,15 +91,6 @@ def open_file(path: str | Path, flags: int, mode: int = 0o666) -> int:
     raise LinkFault(path, "no plain file")
 
 
-def open_to_change(path: str | Path, flags: int, mode: int = 0o666) -> int:
-    """Opens a file that is written where it lies, if it has no other name elsewhere. Raises OSError or LinkFault."""
-    file = open_file(path, flags, mode)
-    if os.fstat(file).st_nlink == 1:
-        return file
-    os.close(file)
-    raise LinkFault(path, "a file that has another name elsewhere")
-
-
 def create(path: str | Path, mode: int = 0o666) -> int:
     """Opens a file that is made now, in place of what an interrupted command left under its name. Raises OSError or
     LinkFault."""
@@ -133,17 +124,6 @@ def listed(path: str | Path) -> list[str]:
         return sorted(os.listdir(folder))
     finally:
         os.close(folder)
-
-
-def new_folder(path: str | Path) -> None:
-    """Makes a folder. Raises OSError or LinkFault."""
-    with at(path) as (folder, name):
-        try:
-            os.mkdir(name, dir_fd=folder)
-        except FileExistsError:
-            if is_link(folder, name):
-                raise LinkFault(path) from None
-            raise
 
 
 def rename(old: str | Path, new: str | Path) -> None:

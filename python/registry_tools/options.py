@@ -82,11 +82,6 @@ class TellingWords(Words):
         raise WordsFault(message)
 
 
-def word_of(path: str | Path) -> str:
-    """A path as a word that is no option."""
-    return f"./{path}" if str(path).startswith("-") and str(path) != STANDARD_INPUT else str(path)
-
-
 def add_pair(parser: argparse.ArgumentParser, of_report: str = "its report") -> None:
     """The words by which a command is told a day and its report, unless a day of a folder is named in their place."""
     add_day_text(parser, "a day text")

@@ -16,8 +16,8 @@ from registry_tools import streams, voice
 from registry_tools.calendars import dates
 from registry_tools.cli import words
 from registry_tools.errors import WordsFault
-from registry_tools.office import folder
-from registry_tools.office.approve import OF_DATES, approve_command, approve_places, waiting
+from registry_tools.office import approve, folder
+from registry_tools.office.approve import OF_DATES
 
 EXAMPLE = "./day approve --office out/office"
 NOTHING = "nothing waits for another login"
@@ -42,7 +42,7 @@ def run(said: argparse.Namespace) -> int:
     if said.date is not None:
         raise WordsFault("--date stands behind a command: a place needs none")
     with folder.opened(said.office) as office:
-        parts = approve_places(office, words.by(said, office.people), tuple(said.what))
+        parts = approve.approve_places(office, words.by(said, office.people), tuple(said.what))
     for part in parts:
         print(f"approved: {part.places}, by {part.by}: {part.name}")
         print("\n".join([*(f"  {row}" for row in part.rows), *part.becomes]))
@@ -52,7 +52,7 @@ def run(said: argparse.Namespace) -> int:
 def show_waiting(said: argparse.Namespace) -> int:
     """Shows what waits for whom."""
     with folder.opened(said.office) as office:
-        lines, parts = waiting(office)
+        lines, parts = approve.waiting(office)
     for part in parts:
         lines += [f"  {part.place}: {part.name}", *(f"    {row}" for row in part.rows)]
     print(streams.by_name("\n".join(lines or [NOTHING])))
@@ -66,6 +66,6 @@ def command_approved(said: argparse.Namespace) -> int:
         raise WordsFault(f"name the day of what is approved: {voice.command('approve', command, '--date', 'DATE')}")
     date = dates.date_of(voice.option("date"), said.date)
     with folder.opened(said.office) as office:
-        asked, by = approve_command(office, words.by(said, office.people), command, date)
+        asked, by = approve.approve_command(office, words.by(said, office.people), command, date)
     print(f"approved: {asked}, asked for by {by}: another login than {office.login} gives it again")
     return 0

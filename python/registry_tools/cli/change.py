@@ -17,12 +17,11 @@ import sys
 from collections.abc import Iterator
 
 from registry_tools import streams, tables, voice
-from registry_tools.cli import words
-from registry_tools.cli.asked import number_of
+from registry_tools.cli import asked as asking, words
 from registry_tools.errors import FOUND, WordsFault
-from registry_tools.office import folder, handed
+from registry_tools.office import change, folder, handed
 from registry_tools.pairs import edits
-from registry_tools.office.change import LAG, LAGS, Change, change, on_pair
+from registry_tools.office.change import LAG, LAGS, Change
 from registry_tools.pairs.edits import ADD, DROP, OPEN, PUT, Edit
 from registry_tools.texts.labels import Labels
 from registry_tools.options import add_to
@@ -104,12 +103,12 @@ def account_edits(said: argparse.Namespace, number: int) -> Iterator[Edit]:
 def account_of(said: argparse.Namespace, names: Labels) -> int:
     """The account that is changed: the named one, or the only one that is opened; 0 if there is none."""
     if said.account is None and len(said.open_account) == 1:
-        return opened(said.open_account[0]).number
-    number = number_of("ACCOUNT", said.account, names)
+        return opened_by(said.open_account[0]).number
+    number = asking.number_of("ACCOUNT", said.account, names)
     return 0 if number is None else edits.account_number(str(number))
 
 
-def opened(word: str) -> Edit:
+def opened_by(word: str) -> Edit:
     """The difference that makes an account. Raises WordsFault if the word names none."""
     number, *rest = word.split(",")
     if len(rest) != 2:
@@ -145,7 +144,7 @@ def edits_of(said: argparse.Namespace, names: Labels = Labels()) -> list[Edit]:
     of_account = [*account_edits(said, number)]
     if of_account and not number:
         raise WordsFault("name the ACCOUNT that is changed")
-    made = [*map(opened, said.open_account), *of_account, *rule_edits(said)]
+    made = [*map(opened_by, said.open_account), *of_account, *rule_edits(said)]
     for edit in made:
         if edit.words[0] != LAG:
             edits.must_be_readable(edit)
@@ -169,7 +168,7 @@ def run(said: argparse.Namespace) -> int:
     words.one_line("who", said.who)
     with folder.opened(said.office) as office:
         asked = Change(tuple(edits_of(said, office.names())), why, said.yes)
-        came = change(office, words.by(said, office.people), asked)
+        came = change.change(office, words.by(said, office.people), asked)
     print(streams.by_name("\n".join([*came.rows, *came.notes])))
     if came.part is None:
         print(f"this would be changed for {came.date}; nothing is, without {voice.option('yes')}")
@@ -181,7 +180,7 @@ def run(said: argparse.Namespace) -> int:
 
 def on_paths(said: argparse.Namespace) -> int:
     """Shows the differences from a report, and writes the whole blocks of the accounts that are changed."""
-    text, rows = on_pair(*read_pair(*said.pairs), edits_of(said))
+    text, rows = change.on_pair(*read_pair(*said.pairs), edits_of(said))
     print("\n".join(rows), file=sys.stderr)
     write_answer(text.decode("utf-8", "surrogateescape"), said.to)
     return 0

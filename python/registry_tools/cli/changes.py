@@ -9,8 +9,8 @@ from registry_tools import showing
 from registry_tools.cli import asked
 from registry_tools.errors import WordsFault
 from registry_tools.office import folder
-from registry_tools.questions import days
-from registry_tools.questions.changes import COLUMNS, changes_of, changes_of_pairs
+from registry_tools.questions import changes, days
+from registry_tools.questions.changes import COLUMNS
 
 EXAMPLE = "./day changes --office out/office"
 
@@ -26,9 +26,9 @@ def run(said: argparse.Namespace) -> int:
     if said.pairs and said.office is not None:
         raise WordsFault("--pairs stands in place of --office")
     if said.pairs:
-        rows = [*changes_of_pairs(days.pairs_named(said.pairs))]
+        rows = [*changes.changes_of_pairs(days.pairs_named(said.pairs))]
     else:
         with folder.opened(said.office) as office:
-            rows = [*changes_of(office)]
+            rows = [*changes.changes_of(office)]
     showing.show(said, COLUMNS, rows)
     return 0

@@ -17,9 +17,9 @@ from registry_tools import streams, voice
 from registry_tools.calendars import dates
 from registry_tools.cli import papers, words
 from registry_tools.errors import FOUND
-from registry_tools.office import folder
+from registry_tools.office import close as closing, folder
 from registry_tools.office.approvals import AskedFor
-from registry_tools.office.close import Close, Doubts, Outcome, close
+from registry_tools.office.close import Close, Doubts, Outcome
 from registry_tools.second import rules
 from registry_tools.texts.books import Sums
 from registry_tools.texts.checks import checks_told
@@ -44,7 +44,7 @@ def run(said: argparse.Namespace) -> int:
     words.one_line("who", said.who)
     date = None if said.date is None else dates.date_of(voice.option("date"), said.date)
     with folder.opened(said.office) as office:
-        came = close(office, words.by(said, office.people), Close(date, said.second, said.verify, said.yes))
+        came = closing.close(office, words.by(said, office.people), Close(date, said.second, said.verify, said.yes))
         if isinstance(came, AskedFor):
             return words.tell_asked_for(came)
         if isinstance(came, Doubts):

@@ -15,8 +15,8 @@ exit status: 0 if nothing of it would be refused, 1 if something would.
 import argparse
 
 from registry_tools.cli import trial, words
-from registry_tools.office import folder, handed
-from registry_tools.office.hand_in import HandIn, hand_in
+from registry_tools.office import folder, hand_in, handed
+from registry_tools.office.hand_in import HandIn
 from registry_tools.office.handed import places
 from registry_tools.office.incoming import Forms
 from registry_tools.sheets import importing
@@ -45,7 +45,7 @@ def run(said: argparse.Namespace) -> int:
     asked = HandIn(words.given(said.files, said.called), tuple(said.again), forms)
     words.one_line("who", said.who)
     with folder.opened(said.office) as office:
-        added = hand_in(office, words.by(said, office.people), asked)
+        added = hand_in.hand_in(office, words.by(said, office.people), asked)
     for part in added.parts:
         count, there = f"{handed.NAMES[part.kind]} {part.count}", places(part.start, part.end)
         print(f"handed in: {part.name}: {count}, {there}")

@@ -11,7 +11,7 @@ from registry_tools.layout import PAPERS
 from registry_tools.office.office import Office
 from registry_tools.questions import statements
 from registry_tools.store.events import Event
-from registry_tools.store.past import kept, pair_of, read
+from registry_tools.store import past
 
 STATEMENTS, PAGES = "statements", "pages"
 
@@ -36,9 +36,9 @@ def make(office: Office, filed: Event) -> None:
     place = folder_of(office, filed.date)
     shutil.rmtree(place, ignore_errors=True)
     place.mkdir(parents=True)
-    pair = pair_of(office.store, filed)
+    pair = past.pair_of(office.store, filed)
     if wanted.makes_statements:
-        statements.make(*read(pair), place / STATEMENTS, None, False)
+        statements.make(*past.read(pair), place / STATEMENTS, None, False)
     if wanted.makes_pages:
         with contextlib.redirect_stderr(io.StringIO()):
             make_pages(office, filed, place / PAGES)
@@ -47,18 +47,19 @@ def make(office: Office, filed: Event) -> None:
 def make_pages(office: Office, filed: Event, place: Path) -> None:
     """Makes the pages of a filed day, with what the folder knows of it beside its pair."""
     # (most folders have no pages made)
-    from registry_tools.pages.page import Page, make as make_of
+    from registry_tools.pages import page
+    from registry_tools.pages.page import Page
     from registry_tools.pages.settled import told_by
 
     store = office.store
-    pair, earlier = pair_of(store, filed), [own for own in store.events.days if own.date < filed.date]
-    before = pair_of(store, earlier[-1]) if earlier else None
+    pair, earlier = past.pair_of(store, filed), [own for own in store.events.days if own.date < filed.date]
+    before = past.pair_of(store, earlier[-1]) if earlier else None
     told = told_by(handed.for_a_day(store, filed).items(handed.CHANGES, handed.EDITS))
     own = Page(
         pair.day, pair.report, before=(before.day, before.report) if before else None,
-        pending=kept(store, filed, "waiting"), told=told,
+        pending=past.kept(store, filed, "waiting"), told=told,
     )  # fmt: skip
-    make_of(place, own)
+    page.make(place, own)
 
 
 def make_again(office: Office, dates: list[datetime.date]) -> None:

@@ -12,9 +12,9 @@ from registry_tools.calendars import dates
 from registry_tools.cli import words
 from registry_tools.errors import FOUND
 from registry_tools.notes import LOOK
-from registry_tools.office import folder
+from registry_tools.office import folder, release
 from registry_tools.office.approvals import AskedFor
-from registry_tools.office.release import Release, Unproved, release
+from registry_tools.office.release import Release, Unproved
 from registry_tools.store.events import HEAD_DIGITS
 
 EXAMPLE = './day release 2025-09-24 --why "statements were sent" --office out/office'
@@ -35,7 +35,7 @@ def run(said: argparse.Namespace) -> int:
     words.one_line("who", said.who)
     date = None if said.day is None else dates.date_of("DATE", said.day)
     with folder.opened(said.office) as office:
-        came = release(office, words.by(said, office.people), Release(date, why, said.yes))
+        came = release.release(office, words.by(said, office.people), Release(date, why, said.yes))
     if isinstance(came, AskedFor):
         return words.tell_asked_for(came)
     if isinstance(came, Unproved):

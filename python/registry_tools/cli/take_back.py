@@ -14,8 +14,8 @@ import argparse
 from registry_tools.cli import words
 from registry_tools.errors import WordsFault
 from registry_tools.notes import first_of
-from registry_tools.office import folder
-from registry_tools.office.take_back import TakeBack, take_back
+from registry_tools.office import folder, take_back
+from registry_tools.office.take_back import TakeBack
 
 EXAMPLE = './day take-back 8 --why "entered by mistake" --office out/office'
 # More are only counted.
@@ -40,7 +40,7 @@ def run(said: argparse.Namespace) -> int:
         raise WordsFault("name what is taken back: a PLACE, --file or --handed-by")
     words.one_line("who", said.who)
     with folder.opened(said.office) as office:
-        items = take_back(office, words.by(said, office.people), asked)
+        items = take_back.take_back(office, words.by(said, office.people), asked)
     told = [f"taken back: place {item.place}: {' '.join(item.rows)}" for item in items]
     print("\n".join(first_of(told, MOST_TOLD)))
     return 0

@@ -14,9 +14,9 @@ from registry_tools.calendars import dates
 from registry_tools.cli import words
 from registry_tools.errors import FOUND
 from registry_tools.notes import worth_telling
-from registry_tools.office import folder
+from registry_tools.office import folder, trial
 from registry_tools.office.composing import NextDay
-from registry_tools.office.trial import Looked, counts_of, table_of, try_next, whys
+from registry_tools.office.trial import Looked
 
 EXAMPLE = "./day try --office out/office"
 
@@ -31,10 +31,10 @@ def run(said: argparse.Namespace) -> int:
     """Runs the command, and answers the exit status."""
     date = None if said.date is None else dates.date_of(voice.option("date"), said.date)
     with folder.opened(said.office) as office:
-        tried = try_next(office, date)
+        tried = trial.try_next(office, date)
     done = [own for own in tried.looked if own.outcome == "done"]
     if done:
-        print("\n".join(table_of(done)))
+        print("\n".join(trial.table_of(done)))
     status = tell(tried.looked, tried.next_day)
     print("".join(f"{line}\n" for line in tried.otherwise), end="")
     return max(status, FOUND if tried.otherwise else 0)
@@ -48,8 +48,8 @@ def tell(looked: list[Looked], next_day: NextDay, places: set[int] | None = None
     for note in worth_telling(next_day.notes):
         print(streams.by_name(note))
     if any(tried.outcome != "done" for tried in shown):
-        print("\n".join(table_of([tried for tried in shown if tried.outcome != "done"])))
-    print("".join(f"{name}: {said}\n" for name, said in whys(shown).items()), end="")
+        print("\n".join(trial.table_of([tried for tried in shown if tried.outcome != "done"])))
+    print("".join(f"{name}: {said}\n" for name, said in trial.whys(shown).items()), end="")
     if shown or places is None:
-        print(f"{'' if places is None else 'of these, '}as it stands, on {next_day.date}: {counts_of(shown)}")
+        print(f"{'' if places is None else 'of these, '}as it stands, on {next_day.date}: {trial.counts_of(shown)}")
     return FOUND if refused else 0

@@ -11,10 +11,10 @@ import argparse
 from registry_tools import voice
 from registry_tools.calendars import dates
 from registry_tools.cli import papers, words
-from registry_tools.office import folder
+from registry_tools.office import folder, undo
 from registry_tools.office.approvals import AskedFor
 from registry_tools.office.handed import places
-from registry_tools.office.undo import Undo, undo
+from registry_tools.office.undo import Undo
 
 EXAMPLE = './day undo 2025-09-24 --why "a surrender was entered for the wrong account" --office out/office'
 
@@ -35,7 +35,7 @@ def run(said: argparse.Namespace) -> int:
     date = None if said.day is None else dates.date_of("DATE", said.day)
     meant = None if said.date is None else dates.date_of(voice.option("date"), said.date)
     with folder.opened(said.office) as office:
-        came = undo(office, words.by(said, office.people), Undo(date, why, meant))
+        came = undo.undo(office, words.by(said, office.people), Undo(date, why, meant))
         if isinstance(came, AskedFor):
             return words.tell_asked_for(came)
         papers.remove(office, came.date)

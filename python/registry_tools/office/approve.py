@@ -44,12 +44,12 @@ def waiting(office: Office) -> tuple[list[str], list[WaitingPart]]:
     told = [own.line for own in approvals.all_waiting(office, handed_in)]
     parts = []
     for part in handed_in.waiting:
-        rows = rows_of(handed_in, part) + change.look_at_waiting(office, handed_in, part)
+        rows = rows_left(handed_in, part) + change.look_at_waiting(office, handed_in, part)
         parts.append(WaitingPart(part.start, part.name, rows))
     return told, parts
 
 
-def rows_of(handed_in: HandedIn, part: Part) -> list[str]:
+def rows_left(handed_in: HandedIn, part: Part) -> list[str]:
     """The rows of a part that count."""
     return [row for item in handed_in.items_left(part) for row in item.rows]
 
@@ -69,7 +69,7 @@ def approve_places(office: Office, by: By, places: tuple[str, ...]) -> list[Appr
             sum_asked = approvals.sum_of_part(handed_in, part)
             office.add(APPROVED, of=part.event.id, sum=sum_asked, name=where)
             by_whom = approvals.who_did(office, part.who, part.login)
-            done.append(ApprovedPart(where, by_whom, part.name, rows_of(handed_in, part), becomes))
+            done.append(ApprovedPart(where, by_whom, part.name, rows_left(handed_in, part), becomes))
     return done
 
 

@@ -70,7 +70,7 @@ def changed(office: Office, asked: Change) -> Changed:
         # (it has no place yet)
         raise WordsFault(fault.why) from None
     notes = [note for note in after.notes if note.startswith(LOOK) and note not in before.notes]
-    rows = [*differences(text_before, after.day())]
+    rows = [*rows_between(text_before, after.day())]
     if not rows:
         raise WordsFault(NOTHING)
     return Changed(date, rows, notes, part, approvals.told_of_new(office, [part]))
@@ -90,7 +90,7 @@ def with_all_lags(made: Iterable[Edit], lags: dict[str, int]) -> Iterator[Edit]:
         yield own
 
 
-def differences(before: DayText, after: DayText) -> Iterator[str]:
+def rows_between(before: DayText, after: DayText) -> Iterator[str]:
     """The rows that go and come between two texts of the next day, those of the rules first."""
     yield from edits.rows_gone_and_come(before.heading, after.heading)
     yield from account_differences(before.book, after.book)
@@ -115,7 +115,7 @@ def look_at_waiting(office: Office, handed_in: HandedIn, part: Part) -> list[str
         date = composing.settlement_date(office, handed_in)
         both = handed_in.until(date), replace(handed_in, waiting=others).until(date)
         before, after = (composing.compose(office, own, date).day() for own in both)
-        return [*differences(before, after)]
+        return [*rows_between(before, after)]
     return []
 
 

@@ -191,7 +191,7 @@ def later_text(
 ) -> NextDay:
     """The text of a later day, made of what was handed in: a text of each kind. A fault or note names `name`/KIND.csv.
     """
-    paths = {kind: kept(f"{name}/{kind}.csv", content) for kind, content in contents.items()}
+    paths = {kind: text_kept(f"{name}/{kind}.csv", content) for kind, content in contents.items()}
     notes = Notes()
     calendar = calendars.next_calendar(day, paths[WORK], notes)
     made = edits_in(f"{name}/{EDITS}.csv", contents[EDITS])
@@ -237,7 +237,7 @@ def head_of(heading: list[str]) -> rules.Day:
 # What was handed in, as one text of each kind.
 
 
-def kept(name: str, content: bytes) -> KeptText | None:
+def text_kept(name: str, content: bytes) -> KeptText | None:
     """A text by its name; none, if there is nothing in it."""
     return KeptText(name, lambda: content) if content else None
 
@@ -313,4 +313,4 @@ def edited_changes(made: list[Edit], report: Report, text: KeptText | None, name
     if not any(edit.number for edit in made) and [*blocks] == sorted(blocks):
         return text
     changed = edits.edited_blocks(made, report, blocks)
-    return kept(f"{name}/edited/{CHANGES}.csv", text_of_rows([row for rows in changed.values() for row in rows]))
+    return text_kept(f"{name}/edited/{CHANGES}.csv", text_of_rows([row for rows in changed.values() for row in rows]))

@@ -260,7 +260,7 @@ def behind(store: Store, base: int) -> HandedIn:
     own = store.events.since(base)
     given = [event for event in own if event.what == HANDED]
     last = next((event for event in reversed(given) if event.kind == FIRST), None)
-    parts = [part_of(store, event) for event in given if event.kind != FIRST or event is last]
+    parts = [part_by(store, event) for event in given if event.kind != FIRST or event is last]
     taken = [Taken(event.at, event.who, event.start, event.why, event.login) for event in own if event.what == TAKEN]
     by = approvals_by(store, own[-1].id if own else base)
     approved = [approved_of(by[part.origin.id], part) for part in parts if part.origin.id in by]
@@ -280,7 +280,7 @@ def approved_of(event: Event, part: Part) -> Approved:
     return Approved(event.at, event.who, part.start, event.login)
 
 
-def part_of(store: Store, event: Event) -> Part:
+def part_by(store: Store, event: Event) -> Part:
     """A part, with the event that handed it in first, and what its rows were made of."""
     there = store.events
     origin = there.of_id(event.origin)
@@ -304,7 +304,7 @@ def put(office: Office, there: HandedIn, kind: str, content: bytes, count: int, 
     for own in originals:
         text = store.texts.put(own.content)
         office.add(SOURCE, of=event.id, kind=f"{own.what}{own.ending}", name=own.name, text=text)
-    part = part_of(store, event)
+    part = part_by(store, event)
     there.parts.append(part)
     return part
 
@@ -317,7 +317,7 @@ def put_again(
         HANDED, of=old.origin.id, kind=old.kind, name=old.name, start=there.end, count=count,
         text=office.store.texts.put(content), date=earliest or NO_DATE,
     )  # fmt: skip
-    part = part_of(office.store, event)
+    part = part_by(office.store, event)
     there.parts.append(part)
     return part
 

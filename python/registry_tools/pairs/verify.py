@@ -48,22 +48,6 @@ def first_difference(source: Rows, expected: Iterable[str]) -> FileFault | None:
     return None
 
 
-def difference_of_touched(day: DayText, report: Report) -> FileFault | None:
-    """The first row that differs from what the rules make of a day, in the log and in the accounts that the day
-    changes. A report that follows from its day has all others as they were: so nothing else can differ."""
-    (settled, log), source = settled_again(day), report.source
-    pairs = [*zip(source.rows, (logged.line for logged in log))]
-    places = [*range(len(log))]
-    for number in sorted({number for logged in log for number in logged.held}):
-        block, expected = report.book[number], [*rules.account_rows(settled.accounts[number])]
-        pairs += itertools.zip_longest(block.rows, expected, fillvalue="")
-        places += range(block.index, block.index + max(block.count, len(expected)))
-    for place, (row, other) in zip(places, pairs):
-        if row != other:
-            return source.fault(place, "row", shown(row), shown(other))
-    return None
-
-
 def other_bytes(settler: Settler, day: str, report: str) -> FileFault | None:
     """How a report differs from what the engine writes of its day."""
     try:
