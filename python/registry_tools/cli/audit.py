@@ -30,7 +30,8 @@ from registry_tools.cli import asked, words
 from registry_tools.errors import FOUND
 from registry_tools.notes import LOOK
 from registry_tools.office import folder
-from registry_tools.questions.audit import Audit, audit, engines_told, people_told
+from registry_tools.questions import audit
+from registry_tools.questions.audit import Audit
 from registry_tools.store import file
 
 EXAMPLE = "./day audit --second --office out/office"
@@ -53,11 +54,11 @@ def run(said: argparse.Namespace) -> int:
     """Runs the command, and answers the exit status."""
     path = folder.folder_of(said.office)
     begin, date = asked.date_or("--from", said.begin, datetime.date.min), asked.date_or("--date", said.date, None)
-    found = audit(path, Audit(said.settle, said.second, begin, said.since, date, said.anchors))
+    found = audit.audit(path, Audit(said.settle, said.second, begin, said.since, date, said.anchors))
     rows = map(showing.fault_row, found.faults)
     told = [*map(str, found.faults), found.summary(), ""]
     showing.show_or_tell(said, COLUMNS, rows, lambda: "\n".join(told))
-    for line in (*engines_told(found.office.events), *people_told(found.office.events)):
+    for line in (*audit.engines_told(found.office.events), *audit.people_told(found.office.events)):
         print(line, file=sys.stderr)
     if found.faults and file.has_changed(path, found.office.events):
         meanwhile = f"another command changed {path} meanwhile, of which this may come: audit again"

@@ -53,7 +53,7 @@ def run(said: argparse.Namespace) -> int:
         # (it is another one on each machine, and the answer is not)
         words.to_errors(f"settled by {came.settled.engine}\nhead: {office.events.head}")
         print(streams.by_name("\n".join([*summary(came.outcome, said.second), *came.left])))
-        papers.make(office, came.event)
+        papers.make_papers(office, came.event)
     return 0
 
 

@@ -29,7 +29,8 @@ from registry_tools import showing
 from registry_tools.errors import FOUND
 from registry_tools.cli import named
 from registry_tools.options import add_pair
-from registry_tools.pairs.compliance import COLUMNS, as_table, cells, counts, is_open, last_year_over, standings
+from registry_tools.pairs import compliance
+from registry_tools.pairs.compliance import COLUMNS
 from registry_tools.texts.follows import read_pair
 
 EXAMPLE = "./day compliance examples/week/monday.csv examples/week/monday-report.csv --year 2024"
@@ -46,9 +47,11 @@ def add_words(parser: argparse.ArgumentParser) -> None:
 def run(said: argparse.Namespace) -> int:
     """Runs the command, and answers the exit status."""
     day, report = read_pair(said.day, said.report)
-    year = last_year_over(day.head) if said.year is None else said.year
-    rows = [*standings(day, report, year)]
-    showing.show_or_tell(said, COLUMNS, map(cells, rows), lambda: as_table(day, rows, year, named.labels_of(said)))
+    year = compliance.last_year_over(day.head) if said.year is None else said.year
+    rows = [*compliance.standings(day, report, year)]
+    names = named.labels_of(said)
+    shown = map(compliance.cells, rows)
+    showing.show_or_tell(said, COLUMNS, shown, lambda: compliance.as_table(day, rows, year, names))
     if showing.is_for_programs(said):
-        print("\n".join(counts(rows)), file=sys.stderr)
-    return FOUND if any(map(is_open, rows)) else 0
+        print("\n".join(compliance.counts(rows)), file=sys.stderr)
+    return FOUND if any(map(compliance.is_open, rows)) else 0

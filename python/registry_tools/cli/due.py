@@ -22,7 +22,7 @@ from registry_tools import showing, tables
 from registry_tools.cli import asked, words
 from registry_tools.office import folder
 from registry_tools.output import NewFile
-from registry_tools.questions.due import as_calendar, due_until, folded, last_shown
+from registry_tools.questions import due
 
 EXAMPLE = "./day due --until 2025-10-31 --office out/office"
 COLUMNS = tables.COLUMNS["due"]
@@ -39,12 +39,12 @@ def add_words(parser: argparse.ArgumentParser) -> None:
 def run(said: argparse.Namespace) -> int:
     """Runs the command, and answers the exit status."""
     with folder.opened(said.office) as office:
-        until = asked.date_or("--until", said.until, last_shown(office))
-        found, names = due_until(office, until), office.names()
+        until = asked.date_or("--until", said.until, due.last_shown(office))
+        found, names = due.due_until(office, until), office.names()
     if said.ics is not None:
-        NewFile(said.ics, as_calendar(found, until)).keep()
+        NewFile(said.ics, due.as_calendar(found, until)).keep()
         print(f"{said.ics}: entries {len(found)}")
         return 0
-    rows = [own.cells() for own in (found if showing.is_for_programs(said) else folded(found))]
+    rows = [own.cells() for own in (found if showing.is_for_programs(said) else due.folded(found))]
     showing.show(said, COLUMNS, asked.rows_shown(said, COLUMNS, rows, names))
     return 0

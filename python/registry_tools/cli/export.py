@@ -13,7 +13,8 @@ from registry_tools.errors import WordsFault
 from registry_tools.options import add_pair, add_to, is_same_file
 from registry_tools.output import write_answer
 from registry_tools.sheets import writing
-from registry_tools.sheets.exporting import WHAT, table_of
+from registry_tools.sheets import exporting
+from registry_tools.sheets.exporting import WHAT
 from registry_tools.sheets.writing import Written
 from registry_tools.texts.follows import read_pair
 
@@ -39,7 +40,7 @@ def run(said: argparse.Namespace) -> int:
         raise WordsFault("--xlsx names the file already: --to is for csv")
     if said.xlsx and any(is_same_file(path, said.xlsx) for path in (said.day, said.report)):
         raise WordsFault(f"--xlsx {said.xlsx} is one of the files that the command reads")
-    columns, rows = table_of(said.what, *read_pair(said.day, said.report), said.year)
+    columns, rows = exporting.table_of(said.what, *read_pair(said.day, said.report), said.year)
     if said.xlsx:
         writing.write_workbook(said.xlsx, Written(said.what, [columns, *rows]))
     else:

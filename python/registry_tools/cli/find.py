@@ -15,7 +15,8 @@ from registry_tools.cli import asked
 from registry_tools.cli.asked import Asked
 from registry_tools.errors import FOUND, WordsFault
 from registry_tools.texts.labels import USER
-from registry_tools.questions.find import Find, accounts_meant, cells_of, find
+from registry_tools.questions import find
+from registry_tools.questions.find import Find
 from registry_tools.second import faults
 from registry_tools.showing import Cell
 from registry_tools.texts.checks import meanings
@@ -46,8 +47,8 @@ def run(said: argparse.Namespace) -> int:
     asked.span_of(said)
     with asked.opened(said) as own:
         wanted = find_of(said, own)
-        meant = accounts_meant(own.days, wanted)
-        rows = [cells for logged in find(own.days, wanted) for cells in cells_of(logged, meant)]
+        meant = find.accounts_meant(own.days, wanted)
+        rows = [cells for logged in find.find(own.days, wanted) for cells in find.cells_of(logged, meant)]
     shown = asked.rows_shown(said, COLUMNS, rows, own.names)
     showing.show_or_tell(said, COLUMNS, shown, lambda: told_of(shown, said.refused))
     return 0 if rows else FOUND

@@ -19,7 +19,7 @@ from registry_tools import showing, tables
 from registry_tools.cli import words
 from registry_tools.errors import WordsFault
 from registry_tools.notes import first_of
-from registry_tools.office import folder, label as naming
+from registry_tools.office import folder, label
 from registry_tools.texts import labels
 from registry_tools.office.label import MOST_TOLD, Named, names_in, one_name
 from registry_tools.texts.labels import Label
@@ -57,7 +57,7 @@ def run(said: argparse.Namespace) -> int:
     why, asked = words.one_line("why", said.why), [*asked_of(said)]
     words.one_line("who", said.who)
     with folder.opened(said.office) as office:
-        named = naming.label(office, words.by(said, office.people), asked, why)
+        named = label.keep_names(office, words.by(said, office.people), asked, why)
     print("\n".join([*first_of([*lines_of(named)], MOST_TOLD), *named.doubts]))
     return 0
 

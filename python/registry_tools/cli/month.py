@@ -11,7 +11,8 @@ from registry_tools.cli import asked
 from registry_tools.errors import WordsFault
 from registry_tools.options import is_same_file
 from registry_tools.output import NewFile
-from registry_tools.pages.month import Month, page_of
+from registry_tools.pages import month
+from registry_tools.pages.month import Month
 
 EXAMPLE = "./day month out/september.html --from 2025-09-01 --deadline 2025-09-30 --office out/office"
 
@@ -32,7 +33,7 @@ def run(said: argparse.Namespace) -> int:
     if any(is_same_file(path, said.file) for path in said.pairs or ()):
         raise WordsFault(f"{said.file} is one of the files that the command reads")
     with asked.opened(said) as own:
-        lead, text = page_of(own.days, own.office, own.names, wanted)
+        lead, text = month.page_of(own.days, own.office, own.names, wanted)
     NewFile(said.file, text).keep()
     print(f"{said.file}: days {lead.removeprefix('Days: ').partition('.')[0]}")
     return 0

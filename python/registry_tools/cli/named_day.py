@@ -104,10 +104,10 @@ def looked_up(name: str, said: argparse.Namespace) -> Iterator[None]:
 def look_up(name: str, office: Office, named: Any, said: argparse.Namespace) -> None:
     """Does so with the days of an open folder."""
     if TAKES[name] == REPORTS:
-        pairs = [pair_of(office.store, day_of(office, date)) for date in named]
+        pairs = [pair_of(office.store, day_named(office, date)) for date in named]
         said.days, said.reports = [pair.day for pair in pairs], [pair.report for pair in pairs]
         return
-    pair = pair_of(office.store, day_of(office, named))
+    pair = pair_of(office.store, day_named(office, named))
     said.day = pair.day
     if TAKES[name] == PAIR:
         said.report = pair.report
@@ -120,7 +120,7 @@ def look_up(name: str, office: Office, named: Any, said: argparse.Namespace) -> 
 def look_up_more(office: Office, date: str, said: argparse.Namespace) -> None:
     """Puts into the words of `./day page` what a folder knows of a day beside its pair: what waits, the day before, and
     who changed something."""
-    day = day_of(office, date)
+    day = day_named(office, date)
     before = [event for event in office.store.events.days if event.date < day.date]
     said.pending = said.pending or kept(office.store, day, "waiting")
     if not said.by_hand:
@@ -133,7 +133,7 @@ def look_up_more(office: Office, date: str, said: argparse.Namespace) -> None:
         said.before = [own.day, own.report]
 
 
-def day_of(office: Office, date: str) -> Event:
+def day_named(office: Office, date: str) -> Event:
     """The event that files a day. Raises WordsFault if none does."""
     days = office.store.events.days
     event = next((event for event in days if str(event.date) == date), None)

@@ -22,7 +22,8 @@ import sys
 from registry_tools.cli import named
 from registry_tools.errors import WordsFault
 from registry_tools.options import add_pair
-from registry_tools.pages.page import FILES, Page, make
+from registry_tools.pages import page
+from registry_tools.pages.page import FILES, Page
 from registry_tools.pages.settled import count_of, told_in
 from registry_tools.progress import progress
 
@@ -57,7 +58,7 @@ def run(said: argparse.Namespace) -> int:
     history = [*zip(said.history[::2], said.history[1::2])]
     before = (said.before[0], said.before[1]) if said.before else None
     only, told = None if said.only is None else tuple(said.only), getattr(said, "told", [])
-    count = make(said.folder, Page(
+    count = page.make(said.folder, Page(
         said.day, said.report, history, before, said.pending, told or (told_in(said.by_hand) if said.by_hand else []),
         only, said.year, said.lanes, named.labels_of(said),
     ))  # fmt: skip

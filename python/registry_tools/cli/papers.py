@@ -28,7 +28,7 @@ def remove(office: Office, date: datetime.date) -> None:
         (office.path / PAPERS).rmdir()
 
 
-def make(office: Office, filed: Event) -> None:
+def make_papers(office: Office, filed: Event) -> None:
     """Makes the papers that office.ini asks for of a day that was just filed."""
     wanted = office.settings
     if not wanted.makes_statements and not wanted.makes_pages:
@@ -67,4 +67,4 @@ def make_again(office: Office, dates: list[datetime.date]) -> None:
     for date in dates:
         filed = office.events.day_of(date)
         if filed:
-            make(office, filed)
+            make_papers(office, filed)

@@ -24,7 +24,8 @@ from registry_tools.office import folder, release
 from registry_tools.texts import labels
 from registry_tools.office.approvals import AskedFor
 from registry_tools.office.office import By, Office
-from registry_tools.pages.send import Send, Sent, send, span_of
+from registry_tools.pages import send
+from registry_tools.pages.send import Send, Sent
 from registry_tools.questions import days
 from registry_tools.store.events import HEAD_DIGITS, Event
 from registry_tools.store.past import kept
@@ -57,8 +58,10 @@ def run(said: argparse.Namespace) -> int:
 
 def send_of(said: argparse.Namespace, own: days.Days) -> Send:
     """Which packages the words ask for."""
-    begin, end = (asked.date_or(name, word, None) for name, word in ((voice.option("from"), said.begin), (voice.option("day"), said.day)))
-    return Send(*span_of(own.dates, begin, end), tuple(said.holder) if said.holder else None, said.pending)
+    words_of = (voice.option("from"), said.begin), (voice.option("day"), said.day)
+    begin, end = (asked.date_or(name, word, None) for name, word in words_of)
+    first, last = send.span_of(own.dates, begin, end)
+    return Send(first, last, tuple(said.holder) if said.holder else None, said.pending)
 
 
 def of_pairs(said: argparse.Namespace) -> Sent:
@@ -68,7 +71,7 @@ def of_pairs(said: argparse.Namespace) -> Sent:
     words.one_line("who", said.who)
     if said.release:
         raise WordsFault("--release is for a folder: paths are not released")
-    return send(own, named.labels_of(said), wanted, said.folder, lambda: None)
+    return send.send(own, named.labels_of(said), wanted, said.folder, lambda: None)
 
 
 def of_folder(said: argparse.Namespace) -> Sent:
@@ -89,7 +92,7 @@ def of_folder(said: argparse.Namespace) -> Sent:
             way = voice.either("--release releases it with them", "its box on the page Send releases it")
             words.to_errors(f"{LOOK}: {day.date} is not released: it may be undone behind its letters; {way}")
         # (all letters are there, and get their names behind it: no day is taken back behind its letters)
-        return send(own, names, wanted, said.folder, lambda: keep(said, office, by, day))
+        return send.send(own, names, wanted, said.folder, lambda: keep(said, office, by, day))
 
 
 def keep(said: argparse.Namespace, office: Office, by: By, day: Event) -> None:

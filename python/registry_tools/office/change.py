@@ -46,7 +46,7 @@ class Changed:
     waits: list[str]
 
 
-def change(office: Office, by: By, asked: Change) -> Changed:
+def change_by_hand(office: Office, by: By, asked: Change) -> Changed:
     """Shows a change by hand, and has it count if it is meant to. Raises WordsFault or FileFault if the next day can't
     have it, or if it changes nothing."""
     with office.changing("change", by) if asked.yes else office.trying("change", by):

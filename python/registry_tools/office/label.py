@@ -30,7 +30,7 @@ class Named:
     doubts: list[str]
 
 
-def label(office: Office, by: By, asked: list[Label], why: str) -> Named:
+def keep_names(office: Office, by: By, asked: list[Label], why: str) -> Named:
     """Keeps the names that are new behind those that are there. Raises WordsFault if there is none."""
     with office.changing("label", by):
         before, at = office.names(), now()

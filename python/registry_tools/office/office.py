@@ -69,7 +69,7 @@ class Office:
     def names(self) -> Labels:
         """The names of users, holders and accounts: what commands have added, one after another."""
         text = self.text_of_names().decode("utf-8-sig", "surrogateescape")
-        return labels.labels_of(rows_of_text(self.store.path, text))
+        return labels.that_count(rows_of_text(self.store.path, text))
 
     def text_of_names(self) -> bytes:
         """All rows by which names were given or taken away."""

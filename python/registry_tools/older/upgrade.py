@@ -12,7 +12,7 @@ from pathlib import Path
 from registry_tools import opening, steps
 from registry_tools.errors import FileFault, of_file, shown
 from registry_tools.office import approvals, handed as todays, people
-from registry_tools.texts.labels import labels_of
+from registry_tools.texts.labels import that_count
 from registry_tools.office.office import Office
 from registry_tools.office.waits import waits_text
 from registry_tools.older import faults, handed, journal
@@ -276,7 +276,7 @@ class Making:
         that changed them; and by none, if no line did."""
         content = self.folder.labels()
         with self.found.adding():
-            labels_of(rows_of_text(self.folder.path / "labels.csv", content.decode("utf-8-sig", "surrogateescape")))
+            that_count(rows_of_text(self.folder.path / "labels.csv", content.decode("utf-8-sig", "surrogateescape")))
         ends = {sum_of(content[:end]): end for end in ends_of_lines(content)}
         found, begin, last = dict[str, bytes](), 0, ""
         for event in self.folder.journal.events:

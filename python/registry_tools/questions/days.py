@@ -12,7 +12,8 @@ from registry_tools import voice
 from registry_tools.errors import WordsFault, of_file
 from registry_tools.store import daybook
 from registry_tools.store.file import Store, telling
-from registry_tools.store.past import PastDay, Pair, pair_of, read, read_all
+from registry_tools.store import past
+from registry_tools.store.past import PastDay, Pair, pair_of, read_all
 from registry_tools.texts.rows import bytes_of, rows_of, sum_of
 
 
@@ -66,7 +67,7 @@ class Days:
     def day(self, date: datetime.date) -> PastDay:
         """A day with its report, and without the day before it."""
         if date not in self.read:
-            self.read = {date: PastDay(*read(self.pairs[date]), None, [])}
+            self.read = {date: PastDay(*past.read(self.pairs[date]), None, [])}
         return self.read[date]
 
 

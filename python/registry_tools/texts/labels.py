@@ -133,10 +133,10 @@ def wrong_name(name: str) -> str:
 
 def read(path: str | Path) -> Labels:
     """The names of a file that count."""
-    return labels_of(rows_of(path))
+    return that_count(rows_of(path))
 
 
-def labels_of(source: Rows) -> Labels:
+def that_count(source: Rows) -> Labels:
     """The names of these rows that count."""
     labels = Labels()
     for label in rows_in(source):
