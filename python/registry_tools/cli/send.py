@@ -14,6 +14,7 @@ holder,NUMBER,NAME and account,NUMBER,NAME, in UTF-8. A letter tells the head of
 A day that is not released is told, since it may be undone behind its letters: --release releases it with them.
 """
 import argparse
+import functools
 from dataclasses import replace
 
 from registry_tools import voice
@@ -92,7 +93,7 @@ def of_folder(said: argparse.Namespace) -> Sent:
             way = voice.either("--release releases it with them", "its box on the page Send releases it")
             words.to_errors(f"{LOOK}: {day.date} is not released: it may be undone behind its letters; {way}")
         # (all letters are there, and get their names behind it: no day is taken back behind its letters)
-        return send.send(own, names, wanted, said.folder, lambda: keep(said, office, by, day))
+        return send.send(own, names, wanted, said.folder, functools.partial(keep, said, office, by, day))
 
 
 def keep(said: argparse.Namespace, office: Office, by: By, day: Event) -> None:

@@ -82,7 +82,7 @@ def look_at_change(own: Reading, by: By, asked: list[str]) -> Changed:
     words_of_change.add_words(parser)
     edits = words_of_change.edits_of(parser.parse_args(asked))
     with own.anew() as office:
-        return change.change(office, by, Change(tuple(edits), NO_REASON))
+        return change.change_by_hand(office, by, Change(tuple(edits), NO_REASON))
 
 
 def look_at_waiting(own: Reading, handed_in: HandedIn, part: Part | None) -> Rows:

@@ -328,7 +328,7 @@ def ends_of_lines(content: bytes) -> Iterator[int]:
 
 def with_engine(own: Event, old: journal.Event, **texts: str) -> Event:
     """An event that files a day, with what settled it and its texts."""
-    return replace(own, engine=old.engine, **texts)  # type: ignore[arg-type]
+    return replace(own, engine=old.engine, **texts)
 
 
 def with_day(own: Event, day: Event | None) -> Event:

@@ -194,7 +194,7 @@ def look_at_handed(found: Found) -> None:
     for event in store.events.all:
         if event.what == HANDED:
             with found.adding(put_back()):
-                part = handed.part_of(store, event)
+                part = handed.part_by(store, event)
                 count = sum(1 for _ in handed.HandedIn(store, [part]).items_of(part))
                 if count > event.count or (count < event.count and not is_upgraded(store)):
                     where = f"event {event.id}, count"

@@ -1,5 +1,6 @@
 """What is wrong with the file of a folder, whatever it says: pages that can't be read, tables and triggers that lack or
 are others, values that can't stand there, and rows that lead nowhere."""
+import functools
 import sqlite3
 from collections.abc import Callable, Iterator
 from pathlib import Path
@@ -18,13 +19,13 @@ def faults_of(db: sqlite3.Connection, path: Path) -> Faults:
     # (text that is no UTF-8 would end a question)
     db.text_factory = lambda text: text.decode("utf-8", "surrogateescape")
     for ask in (of_head, of_pages, of_statements, of_keys):
-        yield from asked(ask, db, path)
+        yield from answers(functools.partial(ask, db, path), path)
 
 
-def asked(ask: Callable[[sqlite3.Connection, Path], Faults], db: sqlite3.Connection, path: Path) -> Faults:
+def answers(ask: Callable[[], Faults], path: Path) -> Faults:
     """What a question finds; and that it can't be answered, if that is so."""
     try:
-        yield from [*ask(db, path)]
+        yield from [*ask()]
     except (*file.UNREADABLE, OverflowError) as error:
         yield unreadable(path, error)
 
@@ -109,7 +110,7 @@ class Again:
     def faults(self) -> Faults:
         """In which tables the file has other rows of a day than its texts make, and of days that are none."""
         for table in (*daybook.BY_DATE, *daybook.BY_RECORD):
-            yield from asked(lambda db, _, table=table: self.faults_of(table), self.db, self.path)
+            yield from answers(functools.partial(self.faults_of, table), self.path)
 
     def faults_of(self, table: str) -> Faults:
         """The same of one table: the first row that is strange, and the first that lacks."""
