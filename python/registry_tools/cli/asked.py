@@ -12,7 +12,7 @@ from registry_tools import showing, tables
 from registry_tools.calendars.dates import date_of
 from registry_tools.errors import WordsFault, shown
 from registry_tools.office import folder
-from registry_tools.texts import naming
+from registry_tools.pairs import naming
 from registry_tools.office.office import Office
 from registry_tools.texts.labels import ACCOUNT, Labels
 from registry_tools.questions import days

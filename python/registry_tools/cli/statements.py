@@ -17,7 +17,7 @@ follows from DAY.
 import argparse
 
 from registry_tools.options import add_pair
-from registry_tools.questions.statements import make
+from registry_tools.questions import statements
 from registry_tools.texts.follows import read_pair
 
 EXAMPLE = (
@@ -36,5 +36,5 @@ def add_words(parser: argparse.ArgumentParser) -> None:
 
 def run(said: argparse.Namespace) -> int:
     """Runs the command, and answers the exit status."""
-    make(*read_pair(said.day, said.report), said.folder, said.account, said.own)
+    statements.make(*read_pair(said.day, said.report), said.folder, said.account, said.own)
     return 0

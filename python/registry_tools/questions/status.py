@@ -10,7 +10,7 @@ from registry_tools.errors import FileFault
 from registry_tools.notes import LOOK, counted
 from registry_tools.office import approvals
 from registry_tools.pairs import settling
-from registry_tools.texts import naming
+from registry_tools.pairs import naming
 from registry_tools.office.handed import KINDS, HandedIn, Item
 from registry_tools.texts.labels import Labels
 from registry_tools.office.office import Office

@@ -56,11 +56,11 @@ def of_statements(db: sqlite3.Connection, path: Path) -> Faults:
     for name in sorted({*expected, *there}, key=repr):
         own, wanted = there.get(name, ""), expected.get(name, "")
         if own != wanted:
-            found, made = (one_line(text) if text else f"no such {name[0]}" for text in (own, wanted))
+            found, made = (in_one_line(text) if text else f"no such {name[0]}" for text in (own, wanted))
             yield FileFault(path, 0, " ".join(name), found, f"{made}: {put_back()}")
 
 
-def one_line(statement: str) -> str:
+def in_one_line(statement: str) -> str:
     """A statement as a fault tells it."""
     return shown(" ".join(statement.split()))
 
