@@ -78,7 +78,7 @@ def date_or(name: str, word: str | None, otherwise: T) -> datetime.date | T:
 # Names.
 
 
-def number_of(option: str, word: str | None, names: Labels, kind: str = ACCOUNT) -> int | None:
+def number_or_none(option: str, word: str | None, names: Labels, kind: str = ACCOUNT) -> int | None:
     """The number that a word says, or that of what it names; None, if there is no word."""
     return None if word is None else number_said(option, word, names, kind)
 

@@ -104,7 +104,7 @@ def account_of(said: argparse.Namespace, names: Labels) -> int:
     """The account that is changed: the named one, or the only one that is opened; 0 if there is none."""
     if said.account is None and len(said.open_account) == 1:
         return opened_by(said.open_account[0]).number
-    number = asking.number_of("ACCOUNT", said.account, names)
+    number = asking.number_or_none("ACCOUNT", said.account, names)
     return 0 if number is None else edits.account_number(str(number))
 
 

@@ -20,7 +20,8 @@ from registry_tools.options import add_day_text, add_to
 from registry_tools.output import write_answer
 from registry_tools.questions.explain import STILL_WRONG, day_or_fault, explained
 from registry_tools.texts.day_text import DayText
-from registry_tools.texts.explainer import PARTS, all_faults, part_of
+from registry_tools.texts import explainer
+from registry_tools.texts.explainer import PARTS
 from registry_tools.texts.mending import Mended, mended
 
 EXAMPLE = "./day explain examples/wrong-date.csv\n  ./day explain examples/first-transfer.csv --mend > out/day.csv"
@@ -49,7 +50,7 @@ def explain_part(path: str, text: Mended, part: str, to: str | None) -> int:
     option = PARTS[part][0]
     lines, count = explained(text)
     if lines:
-        first = next((told for told in all_faults(text.source)), None)
+        first = next((told for told in explainer.all_faults(text.source)), None)
         start = f"row {first.place}: {first.fault.cause}" if first else f"{path} has faults that --mend mends"
         write_answer("\n".join([start, f"read as a file of {option}, since its first row is {part}", *lines, ""]), to)
         return FOUND
@@ -63,7 +64,7 @@ def run(words: argparse.Namespace) -> int:
     text = mended(words.day)
     if words.mend:
         return mend(text, words.to)
-    part = part_of(text.source)
+    part = explainer.part_of(text.source)
     if part:
         return explain_part(words.day, text, part, words.to)
     day = day_or_fault(words.day)

@@ -56,8 +56,8 @@ def run(said: argparse.Namespace) -> int:
 
 def find_of(said: argparse.Namespace, own: Asked) -> Find:
     """What the words look for. Raises WordsFault if nothing has a name that they say."""
-    account = asked.number_of("--account", said.account, own.names)
-    user = asked.number_of("--user", said.user, own.names, USER)
+    account = asked.number_or_none("--account", said.account, own.names)
+    user = asked.number_or_none("--user", said.user, own.names, USER)
     begin, end = asked.span_of(said)
     wanted = Find(account, None, user, said.act, said.refused, said.no_waiting, begin, end)
     if said.name is None:

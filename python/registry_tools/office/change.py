@@ -10,7 +10,6 @@ from registry_tools.errors import FileFault, WordsFault
 from registry_tools.notes import LOOK, Notes
 from registry_tools.office import approvals, composing, handed
 from registry_tools.pairs import edits, next as next_day
-from registry_tools.office.composing import NextDay
 from registry_tools.pairs.edits import PUT, Edit, EditFault
 from registry_tools.office.handed import HandedIn, Part
 from registry_tools.office.office import By, Office

@@ -1,5 +1,5 @@
 """Hands in instructions, working days, or accounts that are new or changed by hand, for the next day of a folder."""
-from collections.abc import Iterator, Sequence
+from collections.abc import Sequence
 from dataclasses import dataclass, field
 from typing import NamedTuple
 

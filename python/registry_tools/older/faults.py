@@ -9,7 +9,7 @@ from registry_tools.older import handed, journal
 from registry_tools.older.folder import PUT_BACK, Folder
 from registry_tools.older.handed import MERGED, HandedIn
 from registry_tools.older.journal import Event
-from registry_tools.questions.audit import Found, Given
+from registry_tools.questions.seams import Found, Given
 from registry_tools.store import events
 from registry_tools.texts.day_text import DayText
 from registry_tools.texts.rows import KeptText
@@ -62,8 +62,8 @@ class OlderFound(Found):
         """What was handed in for a day, as its files have it."""
         old = self.filed[event.date]
         contents = {kind: self.folder.text(old, kind) for kind in MERGED}
-        first = self.folder.handed_in(old).first
-        return Given(day.source.rows[: day.first_do + first.count] if first else None, contents)
+        count = self.folder.handed_in(old).count_of_first()
+        return Given(None if count is None else day.source.rows[: day.first_do + count], contents)
 
     def says(self) -> str:
         """What says when a day was filed, and with which records."""
@@ -76,7 +76,7 @@ class OlderFound(Found):
         return f"{self.folder.path}: {counts}: {counted(len(self.faults), 'difference', 'differences')}"
 
 
-def look_at_files(found: OlderFound) -> HandedIn | None:
+def look_at_folder(found: OlderFound) -> HandedIn | None:
     """Looks at the journal and at each file. Answers what was handed in for the next day, if it can be read."""
     folder = found.folder
     for fault in journal.faults_of(folder.journal):

@@ -17,7 +17,7 @@ def bytes_in(path: Path) -> bytes:
         raise of_file(path, f"it cannot be read: {error.strerror}") from None
 
 
-def listed(path: Path) -> list[Path]:
+def paths_in(path: Path) -> list[Path]:
     """What lies in a folder, by name."""
     try:
         return [path / name for name in opening.listed(path)]

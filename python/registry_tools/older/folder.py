@@ -17,8 +17,8 @@ from registry_tools import opening
 from registry_tools.errors import FileFault, of_file
 from registry_tools.office import settings
 from registry_tools.office.settings import Settings
-from registry_tools.older import handed, journal
-from registry_tools.older.files import bytes_in, listed
+from registry_tools.older import handed, journal, next_day
+from registry_tools.older.files import bytes_in, paths_in
 from registry_tools.older.handed import HandedIn, Source
 from registry_tools.older.journal import FILES, Event, Journal
 from registry_tools.opening import LinkFault
@@ -73,7 +73,7 @@ class Folder:
 
     def for_the_next_day(self) -> HandedIn:
         """What was handed in for the next day."""
-        return handed.read_next(self.next_folder, self.journal, self.settings.people)
+        return next_day.read_next(self.next_folder, self.journal, self.settings.people)
 
     # What is not as it was filed.
 
@@ -81,7 +81,7 @@ class Folder:
         """The files of a day that are not as they were filed."""
         folder = self.day_folder(event.date)
         try:
-            listed(folder)
+            paths_in(folder)
         except LinkFault as fault:
             yield fault
             return
@@ -107,9 +107,9 @@ class Folder:
         folder = self.day_folder(event.date)
         tables = {own.file for own in self.sources_of(event)}
         known = {*PAPERS, *FILES.values(), *([TABLES] if tables else [])}
-        there = [path for path in (listed(folder) if folder.is_dir() else ()) if path.name not in known]
+        there = [path for path in (paths_in(folder) if folder.is_dir() else ()) if path.name not in known]
         if tables and (folder / TABLES).is_dir():
-            there += [path for path in listed(folder / TABLES) if path.name not in tables]
+            there += [path for path in paths_in(folder / TABLES) if path.name not in tables]
         for path in there:
             yield FileFault(path, 0, "", "a file that does not belong here", "no such file")
 
@@ -122,7 +122,7 @@ class Folder:
     def changed_tables(self, event: Event) -> Iterator[FileFault]:
         """The tables of a day that are not as they were handed in."""
         place = self.day_folder(event.date) / TABLES
-        yield from filter(None, (handed.changed(place / own.file, own) for own in self.sources_of(event)))
+        yield from filter(None, (handed.changed_source(place / own.file, own) for own in self.sources_of(event)))
 
     def labels(self) -> bytes:
         """The file of names; nothing, if it is not there."""
@@ -143,7 +143,7 @@ class Folder:
     def strange_days(self) -> Iterator[FileFault]:
         """What lies among the days, and is none."""
         named = {str(event.date) for event in self.journal.filed()}
-        for path in listed(self.path / DAYS):
+        for path in paths_in(self.path / DAYS):
             if path.name not in named:
                 found = "something that the journal does not name"
                 yield FileFault(path, 0, "", found, "the days of the journal alone")

@@ -40,7 +40,7 @@ HEADINGS = {",".join(columns): columns for columns in (OLD_COLUMNS, ENGINE_COLUM
 ROW_END = "\r\n"
 
 
-def row_of(fields: list[str]) -> str:
+def csv_row(fields: list[str]) -> str:
     """Fields as a row of csv, without its end. (One with a line end inside is quoted if the writer has both of its
     letters at the ends of rows.)"""
     buffer = io.StringIO()
@@ -75,7 +75,7 @@ class Event:
     def body(self) -> str:
         """All of its line but the last field."""
         said = {**dict.fromkeys(FILES, ""), **self.sums, **vars(self)}
-        return row_of([str(said[name]) for name in self.columns[:-1]])
+        return csv_row([str(said[name]) for name in self.columns[:-1]])
 
     @functools.cached_property
     def line(self) -> str:
@@ -131,10 +131,6 @@ class Journal:
         released day stays for good, whatever was filed and undone behind it."""
         asked = day or (self.days[-1] if self.days else None)
         return asked is not None and any(event.event == RELEASED and event.date >= asked.date for event in self.events)
-
-    def day_of(self, date: datetime.date) -> Event | None:
-        """The day of this date, if it is in the folder."""
-        return next((day for day in reversed(self.days) if day.date == date), None)
 
 
 def faults_of(journal: Journal) -> Iterator[FileFault]:
@@ -201,7 +197,7 @@ def does_not_follow(journal: Journal, event: Event) -> str:
     elif last is None:
         return "a day that was filed before"
     elif event.event == RELEASED:
-        day = journal.day_of(event.date)
+        day = next((day for day in filed if day.date == event.date), None)
         if day is None or (event.first, event.next) != (day.first, day.next):
             return f"a day that is filed, up to {last.date}, with its records"
     elif (event.date, event.first, event.next) != (last.date, last.first, last.next):

@@ -3,39 +3,34 @@ files are only read, and stay."""
 import contextlib
 import datetime
 import os
-import sqlite3
 import zlib
 from collections.abc import Iterator
 from dataclasses import dataclass, field, replace
 from pathlib import Path
 
 from registry_tools import opening, steps
-from registry_tools.errors import FileFault, of_file, shown
+from registry_tools.errors import FileFault
 from registry_tools.office import approvals, handed as todays, people
 from registry_tools.texts.labels import that_count
 from registry_tools.office.office import Office
 from registry_tools.office.waits import waits_text
-from registry_tools.older import faults, handed, journal
+from registry_tools.older import faults, handed, index, journal
 from registry_tools.older.faults import OlderFound
 from registry_tools.older.files import bytes_in
-from registry_tools.older.folder import TABLES, Folder, alone, opened
-from registry_tools.older.handed import CHANGES, FIRST, KINDS, HandedIn, Part
+from registry_tools.older import folder as places, next_day
+from registry_tools.older.folder import LABELS, TABLES, Folder
+from registry_tools.older.handed import FIRST, KINDS, HandedIn, Part
 from registry_tools.output import name_beside, remove_left
 from registry_tools.progress import progress
-from registry_tools.questions.audit import Filed, compare_texts, look_at_day, past_day_of
+from registry_tools.questions.seams import Filed, compare_texts, look_at_day, past_day_of
 from registry_tools.store import daybook, events, file
-from registry_tools.store.events import (
-    APPROVED, ASKED, FILED, HANDED, LABELLED, NO_DATE, RELEASED, SOURCE, TAKEN, UNDONE, UPGRADED, Event,
-)  # fmt: skip
+from registry_tools.store.events import APPROVED, ASKED, HANDED, LABELLED, NO_DATE, SOURCE, TAKEN, UPGRADED, Event
 from registry_tools.store.file import Store
-from registry_tools.texts.rows import bytes_of, rows_of_text, sum_of, text_of_rows
+from registry_tools.texts.rows import rows_of_text, sum_of, text_of_rows
 
 # How gzip begins what it packs without a name and a time, and how much stands behind it: the sum and the size.
 GZIP_HEAD, GZIP_TAIL = 10, 8
 ZLIB_HEAD = b"\x78\x9c"
-# What the journal and the index of version 1.1 are called, and which layout the index has.
-INDEX, INDEX_LAYOUT = "index.sqlite", 1
-OLD_FILES = "the files of version 1.1 stay as they are, and no command reads them any more"
 
 
 @dataclass(frozen=True)
@@ -58,8 +53,8 @@ def upgrade(path: Path, login: str, who: str) -> Upgraded:
     file.must_be_own(path, os.stat(path))
     if os.path.lexists(place):
         raise FileFault(place, 0, "", "a file that is there already", "no such file: the folder is upgraded, or a new one")
-    with alone(path):
-        folder = opened(path)
+    with places.alone(path):
+        folder = places.opened(path)
         beside = path / name_beside(file.NAME)
         remove_left(path)
         try:
@@ -102,11 +97,13 @@ class Making:
 
     def make(self) -> None:
         """Looks at the folder, and makes all."""
-        there = faults.look_at_files(self.found)
+        there = faults.look_at_folder(self.found)
         old = self.folder.journal
         text = self.store.texts.put(old.text.encode("utf-8", "surrogateescape"))
         self.add(Event(UPGRADED, login=self.login, who=self.who, count=len(old.events), text=text))
-        names = self.names()
+        with self.found.adding():
+            that_count(rows_of_text(self.folder.path / LABELS, self.folder.labels().decode("utf-8-sig", "surrogateescape")))
+        names = index.names_of(self.folder)
         for event in progress.over(old.events, "upgrading the days", len(old.events), step=1):
             self.add_event(event, names.get(event.line, b""))
         if names.get("", b""):
@@ -114,7 +111,8 @@ class Making:
         if there:
             self.add_handed(there, self.folder.next_folder, self.folder.next_folder)
             self.add_asked(there)
-        self.compare_with_index()
+        if not self.found.faults:
+            self.found.add(*index.differences_from(self.folder, self.store.db))
 
     def add(self, event: Event) -> Event:
         """Adds an event."""
@@ -224,7 +222,7 @@ class Making:
     def items(self, kind: str, place: Path, old: journal.Event | None) -> Iterator[list[str]]:
         """The things of a kind that a settled day has, one after another."""
         assert old is not None
-        return handed.items_of(kind, place / journal.FILES[kind], self.folder.text(old, kind))
+        return handed.items_in(kind, place / journal.FILES[kind], self.folder.text(old, kind))
 
     def text_of_part(
         self, there: HandedIn, part: Part, place: Path, rows: dict[str, Iterator[list[str]]], old: journal.Event | None
@@ -250,7 +248,7 @@ class Making:
         today = todays.for_the_next_day(self.store)
         by_start = {part.start: part for part in today.parts}
         for part in there.parts:
-            asked, own = handed.sum_of_part(there, part), by_start[part.start]
+            asked, own = next_day.sum_of_part(there, part), by_start[part.start]
             for by in there.approvals:
                 if by.sum == asked:
                     sum_of_today = approvals.sum_of_part(today, own)
@@ -269,61 +267,11 @@ class Making:
                 if by.sum == asked.sum:
                     self.add(Event(APPROVED, by.at, by.login, by.who, of=own.id, name=by.what, sum=today.sum))
 
-    # Names.
-
-    def names(self) -> dict[str, bytes]:
-        """What each line of the journal added to the names, by its sum. What nobody knows of is added by the last one
-        that changed them; and by none, if no line did."""
-        content = self.folder.labels()
-        with self.found.adding():
-            that_count(rows_of_text(self.folder.path / "labels.csv", content.decode("utf-8-sig", "surrogateescape")))
-        ends = {sum_of(content[:end]): end for end in ends_of_lines(content)}
-        found, begin, last = dict[str, bytes](), 0, ""
-        for event in self.folder.journal.events:
-            if event.event == journal.LABELLED:
-                end, last = ends.get(event.labels, begin), event.line
-                found[last] = content[begin:end] if end > begin else b""
-                begin = max(begin, end)
-        found[last] = found.get(last, b"") + content[begin:]
-        return found
-
-    # The index, if there is one.
-
-    def compare_with_index(self) -> None:
-        """Whether the tables answer as the index of version 1.1 did, if it was up to the journal."""
-        path = self.folder.path / INDEX
-        if self.found.faults or not path.is_file() or path.is_symlink():
-            return
-        with contextlib.suppress(sqlite3.Error), contextlib.closing(sqlite3.connect(f"{path.as_uri()}?mode=ro", uri=True)) as old:
-            lines = old.execute("SELECT date, line FROM filed ORDER BY date").fetchall()
-            is_up = lines == [(str(event.date), event.line) for event in self.folder.journal.filed()]
-            layout = old.execute("PRAGMA user_version").fetchone()[0]
-            for table in (*daybook.BY_DATE, *daybook.BY_RECORD) if is_up and layout == INDEX_LAYOUT else ():
-                self.found.add(*self.unlike(old, path, table))
-
-    def unlike(self, old: sqlite3.Connection, path: Path, table: str) -> Iterator[FileFault]:
-        """In what the index has other rows of a table."""
-        there, made = ({*db.execute(f"SELECT * FROM {table}")} for db in (old, self.store.db))
-        strange, lacking = sorted(there - made, key=repr), sorted(made - there, key=repr)
-        if strange or lacking:
-            found, row = (shown(", ".join(map(str, own[0]))) if own else "no such row" for own in (strange, lacking))
-            mend = f"{row}, as the files of the days have it: take {path} away, and it is made anew"
-            yield FileFault(path, 0, table, found, mend)
-
 
 def is_plain(packed: bytes, content: bytes) -> bool:
     """Whether gzip packed these bytes once, and without a name: as the commands of version 1.1 do."""
     is_one = packed[:4] == b"\x1f\x8b\x08\0" and len(packed) > GZIP_HEAD + GZIP_TAIL
     return is_one and packed[-4:] == (len(content) & 0xFFFFFFFF).to_bytes(4, "little")
-
-
-def ends_of_lines(content: bytes) -> Iterator[int]:
-    """The places behind the lines of a text, and that of its end."""
-    place = content.find(b"\n")
-    while place >= 0:
-        yield place + 1
-        place = content.find(b"\n", place + 1)
-    yield len(content)
 
 
 def with_engine(own: Event, old: journal.Event, **texts: str) -> Event:

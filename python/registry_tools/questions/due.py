@@ -5,7 +5,7 @@ import datetime
 from collections import Counter
 from typing import Iterator, NamedTuple
 
-from registry_tools import streams, tables, voice
+from registry_tools import tables, voice
 from registry_tools.calendars.deadlines import DueDates
 from registry_tools.calendars.due_days import head_after
 from registry_tools.calendars.ics import calendar_of

@@ -89,14 +89,14 @@ def files_of_day(office: Office, event: Event) -> Iterator[tuple[str, bytes]]:
         if own:
             yield name, texts.get(own)
     yield from ((f"{kind}.csv", content) for kind, content in there.contents().items())
-    rows = changes_of(there)
+    rows = by_hand_rows(there)
     yield BY_HAND, as_csv(TOLD, rows).encode("utf-8", "surrogateescape")
     for number, part in enumerate(there.parts, 1):
         for own in part.sources:
             yield f"tables/{number:04}-{plain(own.name, own.kind)}", texts.get(own.text)
 
 
-def changes_of(there: HandedIn) -> Iterator[tuple[str, ...]]:
+def by_hand_rows(there: HandedIn) -> Iterator[tuple[str, ...]]:
     """Who changed what by hand for a day, and why: the rows of a change stand in one field."""
     seconds = {own.place: own.login for own in there.approved}
     for item in there.items(handed.CHANGES, handed.EDITS):
