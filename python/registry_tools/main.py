@@ -1,5 +1,6 @@
 """Finds the command that the words name, runs it, and answers the exit status."""
 import argparse
+import contextlib
 import difflib
 import gc
 import importlib
@@ -188,7 +189,9 @@ def main(arguments: list[str]) -> int:
         # (whoever started the command reads what came of it, and not its sentences)
         outcomes.telling = outcomes.Telling()
         status = main(arguments[2:])
-        outcomes.write(Path(arguments[1]), status)
+        # (without room for it, the status alone tells what came of it)
+        with contextlib.suppress(OSError):
+            outcomes.write(Path(arguments[1]), status)
         return status
     if arguments[:1] == ["help"]:
         arguments = [*arguments[1:2], "--help"]
