@@ -36,8 +36,13 @@ def texts_in(path: Path) -> Iterator[bytes]:
 
 
 def again(text: bytes) -> bytes:
+    """The text that its typed rows make, in a session that takes the instructions one at a time."""
     day = registry.Day(text)
-    return registry.write_day(day.rules(), day.accounts(), day.instructions())
+    with registry.Session(registry.write_day(day.rules(), day.accounts())) as session:
+        rows = [session.apply(asked) for asked in day.instructions()]
+        if rows != [*day.attempt()] or session.report() != day.settle():
+            return b"one at a time gives something else"
+        return session.day().text
 
 
 def text_fault(text: bytes) -> str | None:
@@ -116,6 +121,36 @@ def trials_of_values() -> Iterator[Trial]:
         yield "a fault is pickled", differs(vars(pickle.loads(pickle.dumps(fault))), vars(fault))
 
 
+# ---- sessions
+
+
+def refused_instruction_fault() -> str | None:
+    """What is wrong with a session after an instruction that is outside a limit."""
+    session = registry.Session(DAY)
+    (asked,) = session.day().instructions()
+    before = session.report()
+    wrong = refused(lambda: session.apply(replace(asked, proposer=2**32)), registry.Fault, "row 29: limit")
+    return wrong or differs((session.report(), session.apply(asked).record), (before, 2))
+
+
+def closed_fault() -> str | None:
+    """What is wrong with a session that is closed, and closed again."""
+    session = registry.Session(DAY)
+    (asked,) = session.day().instructions()
+    session.close()
+    session.close()
+    calls: list[Callable[[], object]] = [lambda: session.apply(asked), session.day, session.report, session.__enter__]
+    return "; ".join(filter(None, (refused(call, ValueError, "closed") for call in calls))) or None
+
+
+def trials_of_sessions() -> Iterator[Trial]:
+    yield "an instruction outside a limit changes nothing", refused_instruction_fault()
+    yield "a closed session answers nothing", closed_fault()
+    yield "a session of no day text", refused(lambda: registry.Session(b"x"), registry.Fault, "row 1: tag")
+    path: Any = "day.csv"
+    yield "a session of a path", refused(lambda: registry.Session(path), TypeError, "bytes")
+
+
 # ---- days that are built
 
 
@@ -172,6 +207,7 @@ def trials(texts: Path) -> Iterator[Trial]:
     for number, text in enumerate(texts_in(texts)):
         yield f"text {number}", text_fault(text)
     yield from trials_of_values()
+    yield from trials_of_sessions()
     drawn = random.Random(SEED)
     yield from ((f"built day {number}", built_fault(drawn)) for number in range(BUILT))
 

@@ -82,7 +82,7 @@ PROGRAMS = (
     Program("WORKERS", ("crates/bench_workers/out/bench_workers",), "./check bench_workers"),
     Program("EMBED", ("crates/example_embed/out/example_embed",), "./check example_embed"),
     Program("ONE_BY_ONE", ("crates/example_one_by_one/out/example_one_by_one",), "./check example_one_by_one"),
-    Program("LIBRARY", ("out/library",), "tools/library"),
+    Program("LIBRARY", ("out/library",), "tools/library out/library"),
 )
 # What a script is given for an unproved build, which is slow or lacks something.
 FOR_UNPROVED = {"run-streams": ["--short"], "run-second-answer": ["--days", "100"]}

@@ -10,6 +10,7 @@ from collections.abc import Iterator
 from functools import partial
 from pathlib import Path
 
+import changed_archives
 from by_pip import commands_fault, folder_fault, new_room, room_of_pipx, wheels_fault
 from debian_packages import debian_fault
 from harness import TOP, LeftOut, Trial, answer_of, differs
@@ -160,6 +161,7 @@ def own_trials(made: Path, sources: Path, room: Path, is_built: bool) -> Iterato
     yield "completion", lambda: completion_fault(folder())
     day = "bin/registry-day"
     yield "a week in an archive", lambda: week_fault(folder() / day, Somebody(room / "unpacked-week"), "program")
+    yield from changed_archives.trials(folder, made, room)
     yield "installed below a folder", lambda: install_fault(folder(), room / "installed")
     yield "the commands by pip", lambda: commands_fault(new_room(room / "tools", *folder().glob("python/registry_t*")))
     yield "the top of the repository by pip", lambda: commands_fault(new_room(room / "top", sources), "close")

@@ -11,6 +11,8 @@ from pathlib import Path
 
 from harness import MOST_SECONDS
 
+from registry_tools import proof
+
 # More lines of a difference are not shown.
 MOST_LINES = 12
 # A case of plain `settle` is tried with these numbers of workers too.
@@ -51,10 +53,17 @@ class Case:
         except subprocess.TimeoutExpired:
             return [f"no answer in {MOST_SECONDS} seconds"]
         lines = differing_lines("standard output", self.stdout, run.stdout)
-        lines += differing_lines("standard error", self.stderr, run.stderr)
+        lines += differing_lines("standard error", self.stderr, run.stderr.removeprefix(added_by(program)))
         if run.returncode != self.status:
             lines.append(f"status {run.returncode}, wanted {self.status}")
         return lines
+
+
+def added_by(program: Path) -> bytes:
+    """The line that an unproved build adds beside its version: what its note at the end begins with."""
+    own = proof.read(program)[1]
+    begin = own.find(proof.NOT_PROVED.encode())
+    return own[begin : own.find(b"\n", begin) + 1] if begin >= 0 else b""
 
 
 @dataclass(frozen=True)

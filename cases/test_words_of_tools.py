@@ -15,6 +15,8 @@ REFUSED = {
     "tools/rules.py statement": "tools/rules.py: statement takes the number of one account\n",
     "tools/calls nothing": "tools/calls: it takes no word, such as nothing",
     "tools/types nothing": "tools/types: it takes no word, such as nothing",
+    "tools/library": "library: it proves the engine first, which takes some 30 minutes the first time: name a folder",
+    "tools/library --nothing": "library: there is no option --nothing.",
     "tools/prove nothing /nowhere": "prove: nothing is no crate of crates.txt",
 }
 

@@ -22,7 +22,7 @@ from registry_tools.texts.rows import text_of_rows
 TOP = Path(__file__).resolve().parents[2]
 LIBRARY = TOP / "out/library/lib/libregistry.so.1"
 CALLS = TOP / "examples/python/src/registry/native.py"
-NO_LIBRARY = "there is no library that is as new as its sources: name a program, or run tools/library first"
+NO_LIBRARY = "there is no library that is as new as its sources: name a program, or run tools/library out/library"
 NOTHING_BESIDE = "there is no program and no library beside ./day: name a program"
 
 

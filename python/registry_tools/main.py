@@ -1,5 +1,6 @@
 """Finds the command that the words name, runs it, and answers the exit status."""
 import argparse
+import contextlib
 import difflib
 import gc
 import importlib
@@ -182,7 +183,9 @@ def main(arguments: list[str]) -> int:
         outcomes.telling = outcomes.Telling()
         with voice.speaking(voice.Desk(Path(arguments[1]))):
             status = main(arguments[3:])
-        outcomes.write(Path(arguments[2]), status)
+        # (without room for it, the status alone tells what came of it)
+        with contextlib.suppress(OSError):
+            outcomes.write(Path(arguments[2]), status)
         return status
     if arguments[:1] == ["help"]:
         arguments = [*arguments[1:2], "--help"]

@@ -133,7 +133,7 @@ class Check:
             if not kit.is_there():
                 self.parts.failed = 1
                 return
-            say("check: the unproved build is made now, which takes a minute or two.")
+            say("check: the unproved build is made now, which takes two or three minutes on slow cores.")
             if not program.keep_unproved(self.parts):
                 self.parts.failed = 1
                 say("check: it could not be kept. The last lines that rt said:")

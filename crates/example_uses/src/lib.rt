@@ -16,6 +16,7 @@ pub mod plan;
 pub mod regions;
 pub mod rows;
 pub mod rules;
+pub mod run;
 pub mod schedules;
 pub mod single;
 pub mod tasks;

@@ -14,6 +14,8 @@ use std::thread::Threads;
 use std::{io, thread};
 
 #[cfg(test)]
+mod running;
+#[cfg(test)]
 mod tests;
 
 const PLACES: u32 = 16_384;

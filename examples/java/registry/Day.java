@@ -1,11 +1,13 @@
 package registry;
 
+import java.nio.charset.StandardCharsets;
 import java.time.LocalDate;
 import java.util.ArrayList;
 import java.util.Arrays;
 import java.util.Collection;
 import java.util.List;
 import java.util.Objects;
+import java.util.stream.Collectors;
 
 /** A day text, with its questions as typed rows. Each question is a call of the library. */
 public final class Day {
@@ -164,6 +166,12 @@ public final class Day {
     public List<Instruction> instructions() throws Fault {
         return rows().stream().filter(row -> row[0].equals("do"))
                 .map(row -> Rows.instruction(Arrays.copyOfRange(row, 1, row.length))).toList();
+    }
+
+    // The text without quotes, empty lines and a byte order mark.
+    byte[] plain() throws Fault {
+        String all = rows().stream().map(row -> String.join(",", row) + "\n").collect(Collectors.joining());
+        return all.getBytes(StandardCharsets.US_ASCII);
     }
 
     // The rows of the text, which the library has looked at.

@@ -25,6 +25,12 @@ final class Writing {
         return own.text.toString().getBytes(StandardCharsets.US_ASCII);
     }
 
+    static byte[] row(Instruction instruction) {
+        Writing own = new Writing();
+        own.instruction(instruction);
+        return own.text.toString().getBytes(StandardCharsets.US_ASCII);
+    }
+
     private void row(Object... fields) {
         for (int place = 0; place < fields.length; place++) {
             text.append(place == 0 ? "" : ",").append(fields[place]);

@@ -1,14 +1,23 @@
 //! Writes texts again that stand on standard input: lines LENGTH, each with so many bytes behind it. Writes for each a line
-//! LENGTH and the text that its typed rows make; or the line of its fault with the field, its name, and what is wanted.
-//! `cases/run-callers` compares it with the other languages.
+//! LENGTH and the text that its typed rows make, in a session that takes the instructions one at a time; or the line of its
+//! fault with the field, its name, and what is wanted. `cases/run-callers` compares it with the other languages.
 
-use registry::{Day, Fault};
+use registry::{Day, Fault, Session};
 use std::error::Error;
 use std::io::{self, BufRead, Read, Write};
 
 fn again(text: &[u8]) -> Result<Vec<u8>, Fault> {
     let day = Day::new(text);
-    Ok(registry::write_day(&day.rules()?, &day.accounts()?, &day.instructions()?))
+    let mut session = Session::open(&registry::write_day(&day.rules()?, &day.accounts()?, &[]))?;
+    let mut log = String::new();
+    for asked in day.instructions()? {
+        log.push_str(session.apply(&asked)?.row());
+        log.push('\n');
+    }
+    assert_eq!(log, day.attempt()?.text());
+    let written = session.day().text().to_vec();
+    assert_eq!(session.close()?, day.settle()?);
+    Ok(written)
 }
 
 fn place(text: &[u8]) -> Result<String, Box<dyn Error>> {

@@ -30,6 +30,11 @@ impl<'a> Day<'a> {
         Day { text }
     }
 
+    /// The text.
+    pub fn text(self) -> &'a [u8] {
+        self.text
+    }
+
     /// The report of the settled day.
     ///
     /// # Errors

@@ -21,6 +21,7 @@ mod native;
 mod report;
 mod rows;
 mod rules;
+mod session;
 mod values;
 mod writing;
 
@@ -30,6 +31,7 @@ pub use fault::{Cause, Fault, Field, Place};
 pub use instruction::{Act, Instruction, Share};
 pub use report::{Log, LogRow, Outcome, Refusal, Report, Totals};
 pub use rules::{Period, Rules};
+pub use session::Session;
 pub use values::{AccountKind, Date, Holding, Kind, Right, Status};
 pub use writing::write_day;
 

@@ -102,6 +102,14 @@ fn write_retired(to: &mut String, own: &Retired) -> fmt::Result {
     }
 }
 
+/// The row of an instruction, with its end.
+pub(crate) fn row_of(own: &Instruction) -> String {
+    let mut row = String::new();
+    // (a string takes what it is given)
+    write_instruction(&mut row, own).unwrap_or_default();
+    row
+}
+
 fn write_instruction(to: &mut String, own: &Instruction) -> fmt::Result {
     write!(to, "do,{},{},", own.proposed, own.proposer)?;
     if let Some(approver) = own.approver {

@@ -8,7 +8,7 @@
 
 `settle` answers a `Report`, or raises `Fault` with the first faulty row and its cause. `Day` has all other questions:
 statements, totals, figures, the plan, and what the text itself says. `write_day` makes the text of a day from its
-rules, accounts and instructions.
+rules, accounts and instructions. A `Session` takes instructions one at a time.
 """
 from __future__ import annotations
 
@@ -20,13 +20,14 @@ from registry.native import (
 from registry.rows import (
     Account, Act, Determined, Done, Holding, Instruction, LogRow, Refused, RefusedRow, Retired, Share, Task, Totals,
 )  # fmt: skip
+from registry.sessions import Session
 from registry.texts import Day, Log, Report, Statement, refusals
 from registry.writing import Rules, write_day
 
 __all__ = [
     "Account", "Act", "Cause", "Day", "Determined", "Done", "Fault", "Holding", "Instruction", "Log", "LogRow",
-    "NoAccount", "NoNextDate", "Refused", "RefusedRow", "Report", "Retired", "Rules", "Share", "Statement", "Task",
-    "Totals", "engine_version", "fault_sentence", "field_name", "refusal_sentence", "refusal_word", "refusals",
+    "NoAccount", "NoNextDate", "Refused", "RefusedRow", "Report", "Retired", "Rules", "Session", "Share", "Statement",
+    "Task", "Totals", "engine_version", "fault_sentence", "field_name", "refusal_sentence", "refusal_word", "refusals",
     "report_most", "settle", "write_day",
 ]  # fmt: skip
 

@@ -1,0 +1,4 @@
+mod Takings
+mod Ended
+mod Counted
+mod Dealt
