@@ -122,4 +122,5 @@ class Again:
         )
         if strange or lacking:
             found, row = (shown(", ".join(map(str, own))) if own else "no such row" for own in (strange, lacking))
-            yield FileFault(self.path, 0, f"table {table}", found, f"{row}, as the texts of the days have it: {put_back()}")
+            expected = f"{row}, as the texts of the days have it: {put_back()}"
+            yield FileFault(self.path, 0, f"table {table}", found, expected)
