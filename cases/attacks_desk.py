@@ -362,7 +362,7 @@ def waiting_attempts(work: Path) -> Attempts:
         except WordsFault as fault:
             yield f"too many {what}", None if str(fault).startswith(f"{what} that wait for a yes") else fault
         own.forget_upload(kept[0].name)
-        yield f"behind a yes there is room for more {what}", None if own.new_upload(sizes[-1]).is_dir() else "there is none"
+        yield f"behind a yes there is room for more {what}", not own.new_upload(sizes[-1]).is_dir()
     own = jobs.Jobs(work, work)
     place = own.new_upload(1)
     try:

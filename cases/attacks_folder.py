@@ -19,6 +19,7 @@ Attempts = Iterator[tuple[str, object]]
 WHY = ["--why", "a slip"]
 CLOSE = ["close", "--date", TUESDAY]
 CHANGE = ["change", "100210", "--holder", "5503", *WHY, "--yes"]
+OTHER = "found a file or folder of another login"
 # What others must not read or write: its words are in no answer.
 SECRET = "[office]\nlayout = 1\nprogram = the-secret-of-bert\n"
 # What is put in the place of another thing by each login's own hands.
@@ -42,7 +43,7 @@ def stranger_attempts(work: Path) -> Attempts:
         commands: list[list[object]] = [
             ["status"], ["find"], ["audit"], ["balance", "100210"], ["hand-in", acts], CHANGE, CLOSE,
             ["undo", MONDAY, *WHY], ["approve", "1"], ["backup", "/tmp/rgy-copy"], ["unpack", "/tmp/rgy-unpacked"],
-            ["label", "holder", "5501", "X", *WHY], ["release", MONDAY, "--yes", *WHY], ["desk"],
+            ["label", "holder", "5501", "X", *WHY], ["release", MONDAY, "--yes", *WHY],
         ]  # fmt: skip
         for name, mode, way in (
             ("closed", 0o700, []), ("that all may read", 0o755, []), ("that a group may write", 0o770, ["chmod go-w"]),
@@ -51,7 +52,7 @@ def stranger_attempts(work: Path) -> Attempts:
             for login, who in ((base.anna, "a colleague"), (base.cora, "a stranger")):
                 for words in commands:
                     # (who comes as far is told whose it is)
-                    has = ["found a file or folder of another login"] if mode == 0o755 and words[0] != "desk" else []
+                    has = [OTHER] if mode == 0o755 and words[0] != "audit" else []
                     yield f"{who} at a folder {name}: {words[0]}", base.refuses(login, has, *words)
             if mode == 0o770:
                 for words in (["status"], CLOSE):

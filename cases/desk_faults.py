@@ -27,7 +27,7 @@ KILLED, MOVED, MOST_SECONDS = 9, 3, 120
 WHOM = ("the desk", "the command", "both")
 # The size of a disk that runs full, and what is left free on it at each try, in bytes.
 DISK, FREE = "2m", (0, 8_192, 16_384, 40_960)
-FULL = "No space left on device"
+FULL = ("No space left on device", "database or disk is full", "disk I/O error")
 # How the folder stands, by what a desk says of a command that has ended.
 SAID = {"Nothing was done.": BEFORE, "the folder has changed": DAY, "Done.": DAY}
 
@@ -210,11 +210,16 @@ def full_closing(folders: Folders, disk: Path, free: int) -> object:
         own.unlink()
     wrong = [page.page.faults or page.text for page in (handed, today) if page.status != 200 or page.page.faults]
     stands = folders.stands(office)
-    if "is settled" not in closed.text and FULL not in closed.text:
+    if "is settled" not in closed.text and not tells(closed):
         return f"nothing is said of the disk: {closed.page.text}"
     if "is settled" in closed.text and stands not in (DAY, None):
         return f"said to be done, and it stands as {stands}"
     return wrong or said_later(folders, office)
+
+
+def tells(answer: Answer) -> bool:
+    """Whether a page says that there is no room."""
+    return any(words in answer.text for words in FULL)
 
 
 def full_private(office: Path, disk: Path) -> Iterator[tuple[str, object]]:
@@ -227,13 +232,14 @@ def full_private(office: Path, disk: Path) -> Iterator[tuple[str, object]]:
             begun = plain(office)
             for path in ("/close", "/next", "/hand-in?act=assess"):
                 answer = ana.get(path)
-                yield f"{path} without room", None if FULL in answer.text and not answer.page.faults else answer.text
+                is_shown = answer.status == 200 and not answer.page.faults
+                yield f"{path} needs no room", None if is_shown else answer.text
             ended = ana.ended(ana.send("/audit", "/audit/begin"))
             # (its answer lies on the same disk)
-            is_told = FULL in ended.text or "Its exit status is 5" in ended.text or "Nothing was found." in ended.text
+            is_told = tells(ended) or "Its exit status is 5" in ended.text or "Nothing was found." in ended.text
             yield "an audit without room", None if is_told and not ended.page.faults else ended.page.text
             look = ana.send("/hand-in", "/hand-in/look", act="assess", account="100377")
-            yield "a look without room", None if FULL in look.text and not look.page.faults else look.page.text
+            yield "a look without room", None if tells(look) and not look.page.faults else look.page.text
             yield "the folder of the days", None if plain(office) == begun else "it is another one"
             own.unlink()
             yield "with room again", None if ana.get("/").status == 200 else ana.get("/").text

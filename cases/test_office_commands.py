@@ -1,7 +1,7 @@
 """Tries commands in a row on a folder of days, which hypothesis draws. What has to come of them is a model in plain
 Python: the days that are filed, with the transfers of each, and what was handed in for the next one.
 
-A command may be killed at a call that changes a file: the folder is then as before it or as after it.
+A command may be killed at a drawn moment: the folder is then as before it or as after it.
 """
 from __future__ import annotations
 
@@ -10,9 +10,11 @@ import datetime
 import io
 import os
 import shutil
+import signal
 import sys
 import tempfile
-from dataclasses import dataclass, field, replace
+import time
+from dataclasses import dataclass, replace
 from pathlib import Path
 
 import pytest
@@ -32,9 +34,8 @@ DATES = [datetime.date(2025, 3, 31) + datetime.timedelta(days) for days in range
 # What stands in the first text: who holds what, and its transfer.
 OPENING, FIRST_TRANSFER = {1: 100, 2: 0}, (1, 2, 40)
 USERS = {1: "101,102", 2: "201,202"}
-KILLED = 137
-# What a command asks of the system when it changes a file.
-CHANGES = {"os.rename", "os.remove", "os.mkdir", "os.rmdir", "os.link", "os.truncate", "sqlite3.connect"}
+# After so many milliseconds a command may be killed: it takes some hundred.
+KILLS = st.one_of(st.none(), st.integers(0, 150))
 Transfer = tuple[int, int, int]
 TRANSFERS = st.sampled_from([(source, 3 - source, amount) for source in (1, 2) for amount in (1, 30, 70, 500)])
 
@@ -64,21 +65,6 @@ class Model:
     def without(self, day: int, place: int) -> Model:
         rows = self.filed[day]
         return replace(self, filed=(*self.filed[:day], (*rows[:place], *rows[place + 1 :]), *self.filed[day + 1 :]))
-
-
-@dataclass
-class Kill:
-    """Ends this process at a call that changes a file."""
-
-    left: int
-    calls: set[str] = field(default_factory=lambda: CHANGES)
-
-    def __call__(self, event: str, words: tuple[object, ...]) -> None:
-        writes = event == "open" and isinstance(words[2], int) and words[2] & (os.O_WRONLY | os.O_RDWR)
-        if event in self.calls or writes:
-            self.left -= 1
-            if self.left < 0:
-                os._exit(KILLED)
 
 
 def row_of(transfer: Transfer, date: datetime.date) -> str:
@@ -113,23 +99,24 @@ class Office(RuleBasedStateMachine):
         assert said.status not in (0, 130), f"{words}: {said}"
 
     def give(self, after: Model, kill: int | None, *words: object) -> None:
-        """Gives a command, which may be killed at a call: the folder is then as before or as after."""
+        """Gives a command, which may be killed after a while: the folder is then as before or as after."""
         if kill is None:
             self.must(*words)
             self.model = after
             return
         child = os.fork()
         if child == 0:
-            sys.addaudithook(Kill(kill))
             with open(os.devnull, "w", encoding="utf-8") as nothing:
                 sys.stdout = sys.stderr = nothing
                 try:
                     day_command(self.words(*words))
                 finally:
                     os._exit(0)
+        time.sleep(kill / 1_000)
+        os.kill(child, signal.SIGKILL)
         os.waitpid(child, 0)
         found = self.seen()
-        assert found in (self.model, after), f"{words} was killed at call {kill}: {found}"
+        assert found in (self.model, after), f"{words} was killed after {kill} ms: {found}"
         self.model = found
 
     def seen(self) -> Model:
@@ -149,7 +136,7 @@ class Office(RuleBasedStateMachine):
         return DATES[len(self.model.filed)]
 
     @precondition(lambda self: len(self.model.filed) < len(DATES))
-    @rule(transfers=st.lists(TRANSFERS, min_size=1, max_size=3), kill=st.one_of(st.none(), st.integers(0, 12)))
+    @rule(transfers=st.lists(TRANSFERS, min_size=1, max_size=3), kill=KILLS)
     def hand_in(self, transfers: list[Transfer], kill: int | None) -> None:
         path = self.work / "handed.csv"
         rows = [row_of(transfer, self.next_date) for transfer in transfers]
@@ -158,12 +145,12 @@ class Office(RuleBasedStateMachine):
         self.give(replace(self.model, handed=(*self.model.handed, *transfers)), kill, "hand-in", path, *again)
 
     @precondition(lambda self: len(self.model.filed) < len(DATES))
-    @rule(kill=st.one_of(st.none(), st.integers(0, 40)))
+    @rule(kill=KILLS)
     def close(self, kill: int | None) -> None:
         self.give(self.model.closed(), kill, "close", "--date", self.next_date, "--second", "--yes")
 
     @precondition(lambda self: len(self.model.filed) > 1)
-    @rule(kill=st.one_of(st.none(), st.integers(0, 20)))
+    @rule(kill=KILLS)
     def undo(self, kill: int | None) -> None:
         words = ["undo", DATES[len(self.model.filed) - 1], "--why", "a slip"]
         if len(self.model.filed) > self.model.released:

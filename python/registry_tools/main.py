@@ -30,6 +30,7 @@ COMMANDS = {
     "page": "makes HTML pages of a settled day: the day, compliance, accounts, and the rules",
     "completion": "writes what a shell needs to complete the words of ./day and ./run",
     "man": "writes the manual page",
+    "link": "prints a link to the desk at a socket, for whoever gives the command alone",
 }
 # Those of a folder that remembers its days.
 OFFICE_COMMANDS = {
@@ -83,8 +84,8 @@ take all, or standard input is a folder. 130 somebody interrupted it.
 """
 
 
-# Behind this word stands the folder of a desk, in whose words all is told, and a file into which the command writes what
-# came of it.
+# Behind this word stands the folder of a desk, in whose words all is told, and a file into which the command writes
+# what came of it.
 FOR_DESK = "--for-desk"
 
 
@@ -208,10 +209,11 @@ def main(arguments: list[str]) -> int:
         sys.stdout.flush()
         return status
     except sqlite3.Error as error:
-        print(f"./day {name}: {error}: another command may write the file just now, or it was changed", file=sys.stderr)
+        why = "another command may write the file just now, or it was changed"
+        print(f"{voice.command(name)}: {error}: {why}", file=sys.stderr)
         return FILE
     except OSError as error:
-        return cannot_go_on(f"./day {name}", error)
+        return cannot_go_on(voice.command(name), error)
     except KeyboardInterrupt:
         return 130
 

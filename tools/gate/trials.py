@@ -46,6 +46,7 @@ SECONDS: Mapping[str, float] = {
     "run-desk": 150, "run-office": 200, "run-forms": 120, "run-day": 150, "run-intake": 60, "run-misuse": 60,
     "run-release": 90, "run-large-cases": 60, "run-tools": 70, "run-pages": 60, "run-audit": 60, "run-prefixes": 30,
     "run-documents": 30, "run-words": 30, "run-trust": 40, "run-handover": 20, "run-explain": 20, "run-attacks": 60,
+    "run-kills": 60, "run-bytes": 30, "run-upgrade": 20,
 }  # fmt: skip
 SECONDS_OF_OTHERS = 15.0
 NO_PYTEST = "pytest is not installed (python3-pytest)"

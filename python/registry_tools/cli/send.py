@@ -115,7 +115,8 @@ def must_be_proved(day: Event) -> None:
     """Ends the command if a day is to be released of which nothing proves the report."""
     doubt = release.doubt_of(day)
     if doubt:
-        raise WordsFault(f"{voice.option('release')}: {day.date} {doubt}; {voice.command('release', day.date, '--yes')} releases it")
+        way = f"{voice.command('release', day.date, '--yes')} releases it"
+        raise WordsFault(f"{voice.option('release')}: {day.date} {doubt}; {way}")
 
 
 def must_still_be_there(office: Office, day: Event) -> None:

@@ -13,7 +13,7 @@ from werkzeug.exceptions import HTTPException, NotFound, RequestEntityTooLarge
 from werkzeug.wrappers import Response
 
 from registry_tools import voice
-from registry_tools.desk import coming, gate, pages, posts, questions, shown, words
+from registry_tools.desk import coming, gate, heads, pages, posts, questions, shown, words
 from registry_tools.desk.gate import Served
 from registry_tools.errors import FileFault, WordsFault
 from registry_tools.pages import beside, html
@@ -24,8 +24,8 @@ from registry_tools.sheets import limits
 from registry_tools.texts.checks import form_checks
 from registry_tools.texts.in_words import grouped
 
-# What is sent at once is at most as large as one file may be that is handed in, and a form without files much smaller.
-MOST_BYTES, MOST_FORM = limits.MOST_BYTES, 1 << 20
+# What is sent at once is at most as large as one file may be that is handed in.
+MOST_BYTES = limits.MOST_BYTES
 SECTIONS = {
     "/": "Today", "/hand-in": "Hand in", "/next": "The next day", "/change": "Change", "/close": "Close",
     "/days": "Days", "/accounts": "Accounts", "/compliance": "Compliance", "/due": "Due", "/month": "Months",
@@ -62,7 +62,7 @@ def make(served: Served) -> flask.Flask:
     """The application of a desk."""
     app = flask.Flask("desk", root_path=str(Path(__file__).parent), static_folder=None)
     # (some versions of Flask have no setting for the size of a form)
-    limited: Any = type("Request", (flask.Request,), {"max_form_memory_size": MOST_FORM})
+    limited: Any = type("Request", (flask.Request,), {"max_form_memory_size": heads.MOST_FORM})
     app.request_class = limited
     # (werkzeug 2.2 raises this for a large field by a name that it forgot to import)
     setattr(formparser, "RequestEntityTooLarge", RequestEntityTooLarge)
@@ -135,7 +135,7 @@ def dress(app: flask.Flask, served: Served) -> None:
     app.jinja_env.globals.update(
         sections=sections, is_look=served.is_look, of_looking=OF_LOOKING, office=served.path.name,
         token=lambda: flask.session["token"], once=lambda: secrets.token_hex(8), state=lambda: flask.g.state,
-        who=lambda: gate.known_name(served), says_name=not served.who and not served.proxy,
+        who=lambda: gate.known_name(served), says_name=not (served.who or served.proxy or served.door),
         may_not=lambda: gate.may_not(served), apart=beside.apart, time=voice.time,
         table=shown.sorted_table, acts=faults.ACT_WORDS, meaning=lambda name: form_checks()[name].meaning,
     )  # fmt: skip

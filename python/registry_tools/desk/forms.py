@@ -9,7 +9,7 @@ from typing import Iterable, Iterator, Mapping, Sequence
 
 from registry_tools.desk.reading import Reading
 from registry_tools.desk.words import LAGS, label
-from registry_tools.errors import WordsFault
+from registry_tools.errors import WordsFault, shown
 from registry_tools.texts.labels import ACCOUNT, Labels
 from registry_tools.pages.beside import called
 from registry_tools.second import faults, rules
@@ -163,6 +163,9 @@ def words_of_change(said: Said, own: Reading) -> Iterator[str]:
         fields = account_fields(day.book[int(number)], len(day.head.periods))
     for field in fields:
         asked = said.get(field.name, str(field.now))
+        if field.options and asked not in map(str, field.options):
+            expected = f"one of {', '.join(map(str, field.options))}"
+            raise WordsFault(f"{field.label}: found {shown(asked)}; expected {expected}")
         word = field.drop if asked == DROP else field.word.format(asked)
         if word and asked != str(field.now):
             yield word

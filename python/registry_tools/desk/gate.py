@@ -1,5 +1,7 @@
 """What a desk serves, and who gets in. It answers one address alone, to browsers that came by its link, and behind a
-proxy as the one whom it names; a change needs the token of a form that this browser was shown."""
+proxy as the one whom it names; a change needs the token of a form that this browser was shown. At a socket it answers
+who the system says that comes (door.py)."""
+import datetime
 import hmac
 import re
 import secrets
@@ -11,7 +13,8 @@ from flask.sessions import SecureCookieSessionInterface
 from werkzeug.wrappers import Response
 
 from registry_tools.desk import heads, log
-from registry_tools.desk.heads import LONGEST_NAME, Head, Proxy, Refusal
+from registry_tools.desk.door import NO_LINK, Caller, Door, link_name, peer_of
+from registry_tools.desk.heads import LONGEST_NAME, MOST_FORM, Head, Proxy, Refusal
 from registry_tools.desk.jobs import Jobs
 from registry_tools.desk.reading import Reading
 from registry_tools.desk.shown import show_page
@@ -19,6 +22,7 @@ from registry_tools.cli.words import one_line
 from registry_tools.errors import FileFault, RightsFault, WordsFault
 from registry_tools.office import people
 from registry_tools.office.office import By
+from registry_tools.sheets import limits
 
 # Nothing is fetched from elsewhere, no script runs, no other page has one of the desk in itself, and nobody keeps one.
 HEADERS = {
@@ -29,6 +33,7 @@ HEADERS = {
     "Cache-Control": "no-store", "Cross-Origin-Opener-Policy": "same-origin",
     "Cross-Origin-Resource-Policy": "same-origin",
 }  # fmt: skip
+PLAIN = "text/plain; charset=utf-8"
 NO_DAY = "No day is settled yet: Today leads to the first one."
 # Who looks, and has not said a name yet.
 NOBODY = "nobody yet"
@@ -41,12 +46,15 @@ COMMANDS = {
 
 class Served:
     """A folder with who works at it. `host` is the one address by which it is asked, `proxy` the one that names who it
-    is, `who` the one name of a desk that has only one."""
+    is, `who` the one name of a desk that has only one, `door` what tells who comes to a socket, in place of all
+    these."""
 
     def __init__(
-        self, path: Path, host: str, private: Path, who: str | None, proxy: Proxy | None, is_look: bool
-    ) -> None:
+        self, path: Path, host: str, private: Path, who: str | None, proxy: Proxy | None, is_look: bool,
+        door: Door | None = None,
+    ) -> None:  # fmt: skip
         self.path, self.host, self.who, self.proxy, self.is_look = path, host, who, proxy, is_look
+        self.door = door
         # What the link has: 128 bits.
         self.key = secrets.token_urlsafe(16)
         self.reading, self.jobs = Reading(path, private), Jobs(path, private)
@@ -56,18 +64,78 @@ def head() -> Head:
     """The head of the request."""
     asked = flask.request
     headers = {name.lower(): word for name, word in asked.headers.items()}
-    return Head(asked.method, asked.path, headers, "this machine")
+    peer = f"the login {peer_of(asked.environ).login}" if "gunicorn.socket" in asked.environ else "this machine"
+    return Head(asked.method, asked.path, headers, peer)
 
 
 def let_in(served: Served) -> Any:
     """Answers nothing to who may go on, or why not."""
     own, request = head(), flask.request
+    if served.door is not None:
+        return let_in_by(served.door, own)
     refusal = heads.refusal_of_address(served.host, own) or heads.refusal_of_proxy(served.proxy, own)
     key = request.args.get("key")
     if not refusal and key is not None and request.method == "GET" and request.path == "/":
         return enter(served, own, key)
     refusal = refusal or heads.refusal_of_browser(served.proxy, own, flask.session) or refusal_of_form()
     return refuse(own, refusal) if refusal else None
+
+
+def let_in_by(door: Door, own: Head) -> Any:
+    """The same at a socket: whoever comes is who the system says, and has a link beside, or a proxy that names them."""
+    peer, session = peer_of(flask.request.environ), flask.session
+    caller = door.caller(peer, own)
+    if isinstance(caller, Refusal):
+        return refuse(own, caller)
+    flask.g.caller = caller
+    if peer.is_at_links:
+        return link_for(door, own, caller)
+    refusal = heads.refusal_of_site(own.of("Host"), own)
+    key = flask.request.args.get("key")
+    if not refusal and key is not None and own.method == "GET" and own.path == "/":
+        return enter_by(door, own, caller, key)
+    is_in = session.get("name") == caller.login and "token" in session
+    if caller.is_by_proxy and not is_in and own.method == "GET":
+        # (the proxy has asked who it is)
+        come_in(own, caller, "")
+    elif not is_in or not (caller.is_by_proxy or door.links.counts(session.get("link"), caller.login)):
+        refusal = refusal or Refusal(403, NO_LINK, "it did not come by a link that counts")
+    request = flask.request
+    if own.method == "POST":
+        refusal = refusal or heads.refusal_of_body(
+            own, request.content_length or 0, "chunked" in own.of("Transfer-Encoding"), limits.MOST_BYTES, MOST_FORM
+        )
+    refusal = refusal or refusal_of_form()
+    return refuse(own, refusal) if refusal else None
+
+
+def come_in(own: Head, caller: Caller, link: str) -> None:
+    """Lets the browser of somebody in."""
+    flask.session.clear()
+    flask.session.update(token=secrets.token_urlsafe(16), name=caller.login, link=link)
+    log.came_in(own.peer, caller.person)
+
+
+def enter_by(door: Door, own: Head, caller: Caller, key: str) -> Any:
+    """Lets somebody in who has a link of their own."""
+    name = link_name(key)
+    if not door.links.counts(name, caller.login):
+        return refuse(own, Refusal(403, NO_LINK, "the link of another login, or one that has ended"))
+    come_in(own, caller, name)
+    return flask.render_template("entered.html")
+
+
+def link_for(door: Door, own: Head, caller: Caller) -> Any:
+    """Makes a link for whoever asks at the socket of links, or ends all of theirs."""
+    asked = own.method, own.path
+    if caller.is_by_proxy or asked not in (("POST", "/link"), ("POST", "/end")):
+        return refuse(own, Refusal(404, "Links are made here, and nothing else.", "no link was asked for"))
+    if own.path == "/end":
+        log.told(f"{caller.person} ended their links")
+        return Response(f"{door.links.end(caller.login)}\n", content_type=PLAIN)
+    key, until = door.links.make(caller.login)
+    log.told(f"{caller.person} was given a link")
+    return Response(f"{key}\n{datetime.datetime.fromtimestamp(until):%Y-%m-%d %H:%M}\n", content_type=PLAIN)
 
 
 def refusal_of_form() -> Refusal | None:
@@ -123,7 +191,9 @@ class Sessions(SecureCookieSessionInterface):
 
     def get_cookie_secure(self, app: flask.Flask) -> bool:
         """Whether the cookie is for TLS alone."""
-        return heads.is_by_tls(self.proxy, head())
+        own, caller = head(), flask.g.get("caller")
+        is_by_door = caller is not None and caller.is_by_proxy and heads.says_tls(own)
+        return is_by_door or heads.is_by_tls(self.proxy, own)
 
 
 # Who it is.
@@ -136,12 +206,18 @@ def name_of_proxy(served: Served) -> str:
 
 def known_name(served: Served) -> str:
     """Who works at this browser; nothing, if it was not said yet."""
+    if served.door is not None:
+        caller: Caller | None = flask.g.get("caller")
+        return caller.person if caller is not None else ""
     return name_of_proxy(served) if served.proxy is not None else served.who or str(flask.session.get("who", ""))
 
 
 def speaks_for(served: Served, who: str) -> str | None:
-    """The login that the proxy names, if office.ini lets the login of this desk speak for others. A name that somebody
-    typed is no login."""
+    """The login that the system or the proxy names, if office.ini lets the login of this desk speak for others. A name
+    that somebody typed is no login."""
+    if served.door is not None:
+        caller: Caller = flask.g.caller
+        return caller.login
     is_let = served.proxy is not None and served.reading.office().people.may_speak(people.system_login())
     return who if is_let else None
 

@@ -15,6 +15,8 @@ from registry_tools.errors import WordsFault
 SECRET_HEADER, TLS_HEADER = "X-Desk-Secret", "X-Forwarded-Proto"
 # A secret has 128 bits at least, in the letters that somebody writes it with.
 FEWEST_LETTERS, LONGEST_NAME = 22, 80
+# A form without files is much smaller than a file.
+MOST_FORM = 1 << 20
 # The forms that send files.
 OF_FILES = {"/hand-in/look", "/names/look"}
 # Where a browser that says so sends a form from: a page of the desk, or nowhere, as by a link.
@@ -61,23 +63,38 @@ def is_of(proxy: Proxy, head: Head) -> bool:
 
 def name_in(proxy: Proxy, head: Head) -> str:
     """Who works at the browser, as its proxy says it; nothing, if it says none, or if somebody else says it."""
-    name = head.of(proxy.header)
-    return name if is_of(proxy, head) and name.isprintable() and len(name) <= LONGEST_NAME else ""
+    return plain_name(head.of(proxy.header)) if is_of(proxy, head) else ""
+
+
+def plain_name(name: str) -> str:
+    """A name that a proxy tells; nothing, if it can be none."""
+    return name if name.isprintable() and len(name) <= LONGEST_NAME else ""
+
+
+def says_tls(head: Head) -> bool:
+    """Whether a request says that the browser asked by TLS."""
+    return head.of(TLS_HEADER).lower() == "https"
 
 
 def is_by_tls(proxy: Proxy | None, head: Head) -> bool:
     """Whether the browser asked its proxy by TLS: the proxy alone is believed."""
-    return proxy is not None and is_of(proxy, head) and head.of(TLS_HEADER).lower() == "https"
+    return proxy is not None and is_of(proxy, head) and says_tls(head)
 
 
 def refusal_of_address(host: str, head: Head) -> Refusal | None:
     """Why a request to another address, or of another page, is refused."""
     if head.of("Host") != host:
         return Refusal(400, "This is another address than that of the desk.", "another host")
+    return refusal_of_site(host, head)
+
+
+def refusal_of_site(host: str, head: Head) -> Refusal | None:
+    """Why a form of another page is refused, at a desk that is asked by this address."""
     site, origin = head.of("Sec-Fetch-Site"), head.of("Origin")
     # (a browser says nothing of where a form stands that it sends without a referrer, and a proxy has another address)
     is_own = site in OWN_SITES if site else True
-    if head.method == "POST" and not (is_own and (site or origin in ("", "null", f"http://{host}"))):
+    own = "", "null", f"http://{host}", f"https://{host}"
+    if head.method == "POST" and not (is_own and (site or origin in own)):
         return Refusal(403, "The form is of another page than one of this desk.", "a form of another page")
     return None
 

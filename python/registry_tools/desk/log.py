@@ -39,6 +39,11 @@ def begun(command: str, who: str, peer: str) -> None:
     logger.info("%s began ./day %s, from %s", plain(who) or "somebody", plain(command), plain(peer))
 
 
+def told(what: str) -> None:
+    """Something else that was done."""
+    logger.info("%s", plain(what))
+
+
 def refused(peer: str, method: str, path: str, code: int, why: str) -> None:
     """A request was refused."""
     logger.warning("refused %s: %s %s from %s: %s", code, plain(method), shown(path[:LONGEST]), plain(peer), plain(why))

@@ -132,7 +132,8 @@ def change(served: Served) -> Any:
     number, own = number_asked("account"), served.reading
     of = asked("of") if asked("of") in ("rules", "new") and number is None else "account"
     if own.office().last() is None:
-        return gate.said(400, f"{gate.NO_DAY} Until then another first text, by the command init, is in place of a change.")
+        other = f"Until then another first text, by {voice.command('init')}, is in place of a change."
+        return gate.said(400, f"{gate.NO_DAY} {other}")
     day = own.text_of_next()
     if number is not None and number not in day.book:
         raise WordsFault(f"there is no account {number} in the next day's text")

@@ -242,7 +242,6 @@ def all_waiting(office: Office, handed_in: HandedIn) -> Iterator[Waits]:
         if others:
             by = ", ".join(map(office.people.in_words, others))
             again = voice.either("give the command again", "ask for it again, by its page")
-            again = voice.either("give the command again", "ask for it again, by its page")
             yield Waits(f"{asked}, asked for by {own}, is approved by {by}", str(asked), again, ())
         else:
             second = second_for(office, asked.commands, asked.login)
@@ -258,7 +257,8 @@ def told_of_new(office: Office, parts: list[Part]) -> list[str]:
             commands = (COMMAND_OF[part.kind],)
             who, where = second_for(office, commands, office.login), handed.places(part.start, part.end)
             wait, does = ("waits", "does") if part.end == part.start + 1 else ("wait", "do")
-            told.append(f"{where} {wait} for {who}, and {does} not count before: {voice.command('approve', part.start)}")
+            way_of_part = voice.command("approve", part.start)
+            told.append(f"{where} {wait} for {who}, and {does} not count before: {way_of_part}")
     return told
 
 

@@ -105,7 +105,8 @@ def left_for_later(handed_in: HandedIn, date: datetime.date) -> list[str]:
     left = []
     places = [handed.places(part.start, part.end) for part in handed_in.waiting]
     if places:
-        left.append(f"{LOOK}: not in this day, and waits for another login: {', '.join(places)}; see {voice.command('approve')}")
+        waits = f"waits for another login: {', '.join(places)}; see {voice.command('approve')}"
+        left.append(f"{LOOK}: not in this day, and {waits}")
     items = [item for item in handed_in.items(*handed.KINDS) if item.part.is_of_later(date)]
     if items:
         first = min(item.part.earliest for item in items if item.part.earliest)

@@ -75,7 +75,8 @@ def settlement_date(office: Office, handed_in: HandedIn) -> datetime.date:
     # (behind the end of the calendar, the next day serves to show what would come of it)
     following = last.date + datetime.timedelta(1)
     if following.year > tables.LAST_YEAR:
-        raise WordsFault(f"{last.date} is settled, and no text has a later date: {voice.path(office.path)} has no next day")
+        no_more = f"no text has a later date: {voice.path(office.path)} has no next day"
+        raise WordsFault(f"{last.date} is settled, and {no_more}")
     return following
 
 
@@ -287,7 +288,8 @@ def edits_in(name: str, content: bytes) -> list[Edit]:
             made.append(edits.edit_of(row))
             edits.must_be_readable(made[-1])
         except WordsFault:
-            raise FileFault(name, line, "row", shown(row), f"a change by hand, as {voice.command('change')} writes it") from None
+            expected = f"a change by hand, as {voice.command('change')} writes it"
+            raise FileFault(name, line, "row", shown(row), expected) from None
     return made
 
 

@@ -30,7 +30,8 @@ def folder_of(word: str | None) -> Path:
     elif known and not Path(SETTINGS).is_file():
         path, where = Path(known), f"{VARIABLE}={known}"
     else:
-        path, where, ways = Path("."), "this folder", f"--office FOLDER or {VARIABLE} names one, {voice.command('init')} makes one"
+        path, where = Path("."), "this folder"
+        ways = f"--office FOLDER or {VARIABLE} names one, {voice.command('init')} makes one"
     if not (path / SETTINGS).is_file():
         why = f"{where} is no folder of days: it has no {SETTINGS}"
         raise WordsFault(voice.either(f"{why}; {ways}", why))

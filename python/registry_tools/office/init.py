@@ -45,6 +45,7 @@ def init(asked: Init, by: By) -> DayText:
     with NewFolder(asked.path) as made:
         os.chmod(made.beside, file.FOLDER_MODE)
         made.write(SETTINGS, settings.text())
+        os.chmod(made.beside / SETTINGS, file.MODE)
         with file.making(made.beside / file.NAME) as store:
             office = Office(asked.path, settings, store, by.login, by.who)
             put_first(office, HandedIn(store), first, asked.first)

@@ -134,13 +134,17 @@ def system_login() -> str:
 
 
 def login_for(people: People, whom: str | None) -> str:
-    """The login that gives a command: that of the system, or the one for which it may speak."""
+    """The login that gives a command: that of the system, or the one for which it may speak, or whom one says that may
+    speak, too."""
     own = system_login()
     if whom is None:
         return own
-    if not people.may_speak(own):
-        raise WordsFault(f"{voice.option('for', whom)}: {own} may not speak for others: {SETTINGS} gives it no right {PROXY}")
-    if not whom.strip() or SPEAKS_FOR in whom or not whom.isprintable():
+    *passed, person = whom.split(SPEAKS_FOR)
+    for speaker in (own, *passed):
+        if not people.may_speak(speaker):
+            why = f"{speaker} may not speak for others: {SETTINGS} gives it no right {PROXY}"
+            raise WordsFault(f"{voice.option('for', whom)}: {why}")
+    if not person.strip() or not whom.isprintable():
         raise WordsFault(f"{voice.option('for', shown(whom))}: that is no login")
     return f"{own}{SPEAKS_FOR}{whom}"
 

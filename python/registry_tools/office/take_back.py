@@ -42,7 +42,8 @@ def chosen(handed_in: HandedIn, asked: TakeBack) -> list[Item]:
     named = asked_places(handed_in, asked.places, there) if asked.places else [*there]
     first = [place for place in named if there[place].part.kind == FIRST]
     if first and asked.places:
-        raise WordsFault(f"place {first[0]} is an instruction of the first text: {voice.command('init')} puts in another text")
+        way = f"{voice.command('init')} puts in another text"
+        raise WordsFault(f"place {first[0]} is an instruction of the first text: {way}")
     found = [there[place] for place in named if place not in first and there[place].part in parts]
     if not found:
         raise WordsFault(f"nothing is left of what the words name: {voice.command('status')} shows what is handed in")

@@ -53,7 +53,8 @@ def span_of(known: list[datetime.date], begin: datetime.date | None, end: dateti
         raise WordsFault(f"{voice.option('from', first)} is later than {last}, the last day of the statements")
     dates = [date for date in known if first <= date <= last]
     if last not in known or not dates:
-        raise WordsFault(f"{voice.option('day', last)}: there are days from {known[0]} to {known[-1]}, and not this one")
+        there = f"there are days from {known[0]} to {known[-1]}, and not this one"
+        raise WordsFault(f"{voice.option('day', last)}: {there}")
     return [dates[0], last]
 
 
@@ -74,7 +75,8 @@ def accounts_of(report: Report, wanted: tuple[int, ...] | None) -> dict[int, lis
             holders.setdefault(block.holder, []).append(number)
     for holder in wanted or ():
         if holder not in holders:
-            raise WordsFault(f"{voice.option('holder', holder)}: no operator, aircraft or trading account has this holder")
+            nobody = "no operator, aircraft or trading account has this holder"
+            raise WordsFault(f"{voice.option('holder', holder)}: {nobody}")
     return {holder: holders[holder] for holder in wanted or holders}
 
 

@@ -53,7 +53,8 @@ class EditFault(WordsFault):
     was."""
 
     def __init__(self, edit: Edit, why: str, place: int | None = None) -> None:
-        super().__init__(why if place is None else f"place {place}: {why}; {voice.command('take-back', place)} takes it back")
+        back = f"{voice.command('take-back', place)} takes it back"
+        super().__init__(why if place is None else f"place {place}: {why}; {back}")
         self.edit, self.why = edit, why
 
 
@@ -181,7 +182,8 @@ def edited_heading(edits: Iterable[Edit], heading: list[str]) -> list[str]:
         rows[rows.index("format,1")] = "format,2"
         rows += [] if named else ["current,1"]
     elif named and "format,1" in rows:
-        raise WordsFault(f"the one period is the current one: {voice.either('--period FIRST-LAST', 'One more period')} adds another")
+        adds = voice.either("--period FIRST-LAST", "One more period")
+        raise WordsFault(f"the one period is the current one: {adds} adds another")
     return sorted(rows, key=place_of_rule)
 
 

@@ -139,7 +139,8 @@ def settler_in_words(named: str) -> str:
 def by_program(program: str, text: bytes, whose: str) -> bytes:
     """The report that a program writes of a day text."""
     if not program and not RUN.exists():
-        raise WordsFault(f"no program is named: put `program = PATH` into office.ini, or have {voice.option('second')} settle")
+        second = voice.option("second")
+        raise WordsFault(f"no program is named: put `program = PATH` into office.ini, or have {second} settle")
     words = [program or str(RUN), "settle"]
     progress.tell(f"settling by {words[0]}")
     try:
@@ -148,7 +149,8 @@ def by_program(program: str, text: bytes, whose: str) -> bytes:
         raise of_file(words[0], f"it cannot be run: {error.strerror}") from None
     if run.returncode:
         said = run.stderr.decode("utf-8", "replace").strip()
-        more = voice.either(voice.either("without the program, --second has the second answer settle", "without the program, the second answer may settle"), "without the program, the second answer may settle")
+        way = voice.either("--second has the second answer settle", "the second answer may settle")
+        more = f"without the program, {way}"
         raise of_file(words[0], f"settle{whose} ends with status {run.returncode}: {said}\n{more}")
     tell_once(run.stderr)
     return run.stdout

@@ -158,7 +158,8 @@ def strange_days(found: Found) -> Iterator[FileFault]:
     store, filed = found.office.store, {str(event.date) for event in found.office.events.days}
     for (date,) in store.db.execute("SELECT DISTINCT date FROM days ORDER BY date"):
         if date not in filed:
-            yield FileFault(store.path, 0, "table days", shown(str(date)), f"the days of the events alone: {put_back()}")
+            expected = f"the days of the events alone: {put_back()}"
+            yield FileFault(store.path, 0, "table days", shown(str(date)), expected)
 
 
 # What is no difference, and has to be known.

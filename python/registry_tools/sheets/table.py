@@ -20,7 +20,8 @@ PASSED_OVER = ""
 def other_headings() -> str:
     """How somebody tells what his headings mean."""
     help_of_import = voice.command("import", "--help")
-    return voice.either(f"--mapping names other headings, as {help_of_import} shows", "the page Hand in has empty tables")
+    by_mapping = f"--mapping names other headings, as {help_of_import} shows"
+    return voice.either(by_mapping, "the page Hand in has empty tables")
 
 
 def date_reader(example: str | None) -> Callable[[str], str]:
@@ -29,7 +30,8 @@ def date_reader(example: str | None) -> Callable[[str], str]:
         return lambda word: word
     parts = re.split("([0-9]+)", example)
     if sorted(part for part in parts if part.isdigit()) != sorted(SHOWN_DAY):
-        raise WordsFault(f"--dates {example} is not the last day of 2026 in digits, as 31.12.2026 or 12/31/2026")
+        asked = voice.option("dates", example)
+        raise WordsFault(f"{asked} is not the last day of 2026 in digits, as 31.12.2026 or 12/31/2026")
     names = {"31": "(?P<day>[0-9]{1,2})", "12": "(?P<month>[0-9]{1,2})", "2026": "(?P<year>[0-9]{4})"}
     pattern = re.compile("".join(names.get(part, re.escape(part)) for part in parts))
 
@@ -49,7 +51,7 @@ class Table:
     def __init__(self, sheet: Sheet, known: Sequence[str], dates: str | None, mapping: Mapping = Mapping()) -> None:
         self.sheet, self.known, self.mapping = sheet, known, mapping
         if dates is not None and mapping.dates is not None:
-            raise WordsFault(f"--dates {dates}: {mapping.path} says how dates are written already")
+            raise WordsFault(f"{voice.option('dates', dates)}: {mapping.path} says how dates are written already")
         self.dates = dates or mapping.dates
         self.read_date = date_reader(self.dates)
         self.read_amount = mappings.amount_reader(mapping.amounts, mapping.path)

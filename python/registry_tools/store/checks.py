@@ -76,10 +76,18 @@ def made_of(script: str) -> dict[tuple[str, str], str]:
 
 
 def statements_in(db: sqlite3.Connection) -> dict[tuple[str, str], str]:
-    """What made the tables of a database and all beside them, by kind and name. (Those of SQLite itself have no
-    statement.)"""
-    made = db.execute("SELECT type, name, sql FROM sqlite_master WHERE sql IS NOT NULL").fetchall()
-    return {(str(kind), str(name)): str(statement) for kind, name, statement in made}
+    """What made the tables of a database and all beside them, and of which table each is, by kind and name."""
+    before, db.text_factory = db.text_factory, told_text
+    try:
+        made = db.execute("SELECT type, name, tbl_name, coalesce(sql, '') FROM sqlite_master").fetchall()
+    finally:
+        db.text_factory = before
+    return {(str(kind), str(name)): f"{table}: {statement}" for kind, name, table, statement in made}
+
+
+def told_text(text: bytes) -> str:
+    """A text of a database, which somebody may have changed to what is none."""
+    return text.decode("utf-8", "replace")
 
 
 def of_keys(db: sqlite3.Connection, path: Path) -> Faults:
@@ -122,4 +130,5 @@ class Again:
         )
         if strange or lacking:
             found, row = (shown(", ".join(map(str, own))) if own else "no such row" for own in (strange, lacking))
-            yield FileFault(self.path, 0, f"table {table}", found, f"{row}, as the texts of the days have it: {put_back()}")
+            expected = f"{row}, as the texts of the days have it: {put_back()}"
+            yield FileFault(self.path, 0, f"table {table}", found, expected)

@@ -1,0 +1,74 @@
+"""Prints a link for a browser, with which whoever gives the command comes to the desk at a socket (./day desk
+--socket): the system tells the desk who that is. It counts for this login alone, for some hours, or up to --end.
+
+From another machine, with ssh:
+
+  ssh -N -L 8424:PATH anna@host &         leads a port of that machine to the socket
+  ssh anna@host ./day link --socket PATH  prints the link, which its browser opens
+
+The port is open to everybody on that machine, and the link is not: so it is a link that lets a browser in.
+"""
+import argparse
+import http.client
+import os
+import socket
+
+from registry_tools.errors import WordsFault
+
+EXAMPLE = "./day link --socket /run/registry/desk.sock"
+# The variable that names the socket for whoever names none; and the port that ssh leads to it.
+VARIABLE, PORT = "REGISTRY_DESK", 8424
+# Behind the path of a socket, the one where links are made.
+LINKS = ".link"
+MOST_SECONDS = 30
+
+
+class Connection(http.client.HTTPConnection):
+    """A connection to a socket of the system."""
+
+    def __init__(self, path: str) -> None:
+        super().__init__("localhost", timeout=MOST_SECONDS)
+        self.path = path
+
+    def connect(self) -> None:
+        """Opens it."""
+        self.sock = socket.socket(socket.AF_UNIX)
+        self.sock.settimeout(MOST_SECONDS)
+        self.sock.connect(self.path)
+
+
+def add_words(parser: argparse.ArgumentParser) -> None:
+    """Tells a parser the words of the command."""
+    parser.add_argument("--socket", metavar="PATH", help=f"the socket of the desk; without it, that of {VARIABLE}")
+    parser.add_argument("--port", type=int, default=PORT, metavar="N", help=f"the port that leads there; else {PORT}")
+    parser.add_argument("--end", action="store_true", help="end all links of this login")
+
+
+def run(said: argparse.Namespace) -> int:
+    """Runs the command, and answers the exit status."""
+    path = said.socket or os.environ.get(VARIABLE)
+    if not path:
+        raise WordsFault(f"name the socket of the desk: --socket PATH, or {VARIABLE}")
+    answer = ask(path, "/end" if said.end else "/link").split("\n")
+    if said.end:
+        print(f"links that have ended: {answer[0]}")
+        return 0
+    key, until, *_ = answer
+    print(f"http://127.0.0.1:{said.port}/?key={key}\nit counts for you alone, until {until}; --end ends it before")
+    return 0
+
+
+def ask(path: str, what: str) -> str:
+    """What the desk answers at the socket of links."""
+    own = Connection(f"{path}{LINKS}")
+    try:
+        own.request("POST", what, headers={"Content-Length": "0"})
+        answer = own.getresponse()
+        text = answer.read().decode("utf-8", "replace")
+    except (OSError, http.client.HTTPException) as error:
+        raise WordsFault(f"--socket {path}: no desk answers there: {error}") from None
+    finally:
+        own.close()
+    if answer.status != http.client.OK:
+        raise WordsFault(f"--socket {path}: the desk does not know this login, or answers otherwise: {answer.status}")
+    return text

@@ -1,0 +1,189 @@
+"""The desk on a socket of the system, which says by which login somebody comes: nobody types who they are.
+
+office.ini says what each login may do; whom it does not name gets nothing. A login with the right `proxy` says by a
+header for whom it comes, and nobody else's header counts. Who comes without a proxy has a link beside: a port that
+leads to the socket from the reader's own machine, as `ssh -L` opens it, is open to everybody there.
+
+Links are made at a second socket, which such a port does not lead to: PATH.link.
+"""
+import contextlib
+import hashlib
+import os
+import secrets
+import socket
+import stat
+import struct
+import threading
+import time
+from collections.abc import Callable, Mapping
+from dataclasses import dataclass
+from pathlib import Path
+from typing import Any
+
+from registry_tools.cli.link import LINKS
+from registry_tools.desk import heads
+from registry_tools.desk.heads import Head, Refusal
+from registry_tools.errors import WordsFault
+from registry_tools.layout import SETTINGS
+from registry_tools.office import people, settings
+from registry_tools.office.people import SPEAKS_FOR, People
+
+# By this header a proxy says for whom it comes, if the desk is not told another one.
+HEADER = "X-Remote-User"
+# So long a link counts, with all that came in by it, in seconds; and so many count for one login.
+MOST_SECONDS, MOST_LINKS = 8 * 3_600, 10
+# What answers, by the name by which gunicorn loads it; and the longest path of a socket.
+WORKER = "registry_tools.desk.worker.Worker"
+LONGEST = 100
+NOT_NAMED = "This desk does not know you: office.ini names who may come."
+NO_LINK = "Ask for a link of your own by the command link, and open it."
+
+
+@dataclass(frozen=True)
+class Peer:
+    """Who is at the other end of a connection: the login that the system tells, and whether it came to the socket of
+    links."""
+
+    login: str
+    is_at_links: bool
+
+
+@dataclass(frozen=True)
+class Caller:
+    """Who asks: the login by which the folder keeps what is done, the person, and whether a proxy speaks for them."""
+
+    login: str
+    person: str
+    is_by_proxy: bool
+
+
+@dataclass(frozen=True)
+class Link:
+    """A link: for which login it counts, and until when, in seconds of the clock."""
+
+    login: str
+    until: float
+
+
+def peer_of(environ: Mapping[str, Any]) -> Peer:
+    """Who is at the other end of the connection of a request."""
+    own: socket.socket = environ["gunicorn.socket"]
+    asked = own.getsockopt(socket.SOL_SOCKET, socket.SO_PEERCRED, struct.calcsize("iII"))
+    _, user, _ = struct.unpack("iII", asked)
+    return Peer(people.login_of(user), str(own.getsockname()).endswith(LINKS))
+
+
+class Links:
+    """The links that were made, by the sums of their keys: whoever reads the memory of a log finds no key."""
+
+    def __init__(self) -> None:
+        self.lock = threading.Lock()
+        self.there: dict[str, Link] = {}
+
+    def make(self, login: str) -> tuple[str, float]:
+        """A new link for a login: its key, and until when it counts. Of too many, the first one ends."""
+        key, until = secrets.token_urlsafe(16), time.time() + MOST_SECONDS
+        with self.lock:
+            own = [name for name, link in self.there.items() if link.login == login]
+            for name in own[: max(len(own) - MOST_LINKS + 1, 0)]:
+                del self.there[name]
+            self.there[link_name(key)] = Link(login, until)
+        return key, until
+
+    def end(self, login: str) -> int:
+        """Ends all links of a login, and answers how many there were."""
+        with self.lock:
+            own = [name for name, link in self.there.items() if link.login == login]
+            for name in own:
+                del self.there[name]
+        return len(own)
+
+    def counts(self, name: object, login: str) -> bool:
+        """Whether a link counts for a login now."""
+        link = self.there.get(str(name))
+        return link is not None and link.login == login and time.time() < link.until
+
+
+def link_name(key: str) -> str:
+    """The name of a link: the sum of its key."""
+    return hashlib.sha256(key.encode("utf-8", "replace")).hexdigest()
+
+
+class Door:
+    """Who may come to the desk of a folder."""
+
+    def __init__(self, folder: Path, header: str = HEADER) -> None:
+        self.folder, self.header, self.links = folder, header, Links()
+
+    def people(self) -> People:
+        """The people whom office.ini names. Raises FileFault."""
+        return settings.read(self.folder / SETTINGS).people
+
+    def caller(self, peer: Peer, head: Head) -> Caller | Refusal:
+        """Who asks, or why nobody does who may."""
+        known = self.people()
+        if peer.login not in known.named:
+            return Refusal(403, NOT_NAMED, f"{peer.login} is no login that {SETTINGS} names")
+        if not known.may_speak(peer.login):
+            return Caller(peer.login, peer.login, False)
+        name = heads.plain_name(head.of(self.header))
+        if not name:
+            told = "The proxy before this desk has to say who you are, and it does not."
+            return Refusal(403, told, f"the proxy {peer.login} names nobody")
+        if name not in known.named or SPEAKS_FOR in name:
+            return Refusal(403, NOT_NAMED, f"{name}, whom {peer.login} names, is no login that {SETTINGS} names")
+        return Caller(f"{peer.login}{SPEAKS_FOR}{name}", name, True)
+
+
+# Where it listens.
+
+
+def must_be_free(path: str) -> None:
+    """Ends the command where no socket can be made: another desk answers there, something else lies there, or others
+    may put theirs in its place."""
+    if len(os.fsencode(path)) > LONGEST:
+        raise WordsFault(f"--socket {path}: a path of a socket has at most {LONGEST} bytes")
+    folder = os.path.dirname(os.path.abspath(path))
+    try:
+        about = os.stat(folder)
+    except OSError as error:
+        raise WordsFault(f"--socket {path}: {folder}: {error.strerror}") from None
+    is_shared = about.st_mode & (stat.S_IWGRP | stat.S_IWOTH) and not about.st_mode & stat.S_ISVTX
+    if about.st_uid not in (os.geteuid(), 0) or is_shared:
+        expected = f"expected a folder of {people.system_login()} that nobody else may write"
+        raise WordsFault(f"--socket {path}: others could put a socket of theirs into {folder}; {expected}")
+    for own in (path, f"{path}{LINKS}"):
+        must_be_left(own)
+
+
+def must_be_left(path: str) -> None:
+    """Ends the command if something else than a socket that a desk left lies there."""
+    with contextlib.suppress(FileNotFoundError):
+        if not stat.S_ISSOCK(os.lstat(path).st_mode):
+            raise WordsFault(f"--socket {path}: something else than a socket lies there")
+        with socket.socket(socket.AF_UNIX) as own, contextlib.suppress(ConnectionRefusedError):
+            own.connect(path)
+            raise WordsFault(f"--socket {path}: another desk answers there")
+
+
+def serve(app: Any, path: str, threads: int, end: Callable[[], None]) -> None:
+    """Answers requests at a socket until somebody ends it. `end` is done by the process that answers, at its end."""
+    from gunicorn.app.base import BaseApplication
+
+    class Application(BaseApplication):
+        """The desk, as gunicorn wants it."""
+
+        def load_config(self) -> None:
+            """How it is served: by one process, which knows all that it began."""
+            for name, value in {
+                "bind": [f"unix:{path}", f"unix:{path}{LINKS}"], "workers": 1, "threads": threads, "umask": 0o111,
+                "worker_class": WORKER, "timeout": 0, "loglevel": "warning", "graceful_timeout": 5,
+                "worker_exit": lambda _server, _worker: end(),
+            }.items():  # fmt: skip
+                self.cfg.set(name, value)
+
+        def load(self) -> Any:
+            """What answers."""
+            return app
+
+    Application().run()
