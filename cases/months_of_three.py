@@ -435,8 +435,12 @@ class MonthOfThree(Month):
         left = [part for part in self.parts if self.is_left(part, date)]
         with folder.at(self.office) as office:
             filed = told_of(handed.for_a_day(office.store, office.events.days[-1]))
-        if filed != self.rows_of(parts):
-            raise Fault(f"{date} was made of {filed}, wanted {self.rows_of(parts)}")
+        wanted = self.rows_of(parts)
+        # (who approved what nobody has to approve any more is told, too)
+        more = [own for own in filed["approved"] if own not in wanted["approved"]]
+        known = [[who, str(part.start), own] for part in parts for own, who in part.approved.items()]
+        if {**filed, "approved": wanted["approved"]} != wanted or any(own not in known for own in more):
+            raise Fault(f"{date} was made of {filed}, wanted {wanted}")
         place = len(self.filed)
         text, report = (self.work / f"{place}.{name}" for name in ("day", "report"))
         text.write_bytes(made[0])

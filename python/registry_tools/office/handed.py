@@ -268,11 +268,16 @@ def behind(store: Store, base: int) -> HandedIn:
 
 
 def approvals_by(store: Store, until: int) -> dict[int, Event]:
-    """The last approval of each thing that was handed in, up to an event, by the event that handed it in first. (A day
-    that is corrected is closed once more with what was approved before.)"""
-    there = store.events
-    own = (event for event in there.all[:until] if event.what == APPROVED and event.of is not None)
-    return {there.of_id(event.of).origin: event for event in own if event.of is not None}
+    """The last approval of each thing that was handed in, up to an event, by the event that handed it in first; of what
+    is another thing since, because some of it was taken back, none. (A day that is corrected is closed once more with
+    what was approved before.)"""
+    there, by = store.events, dict[int, Event]()
+    for event in there.all[:until]:
+        if event.what == APPROVED and event.of is not None:
+            by[there.of_id(event.of).origin] = event
+        elif event.what == TAKEN and event.of is not None:
+            by.pop(there.of_id(event.of).origin, None)
+    return by
 
 
 def approved_of(event: Event, part: Part) -> Approved:
