@@ -262,9 +262,10 @@ def behind(store: Store, base: int) -> HandedIn:
     last = next((event for event in reversed(given) if event.kind == FIRST), None)
     parts = [part_by(store, event) for event in given if event.kind != FIRST or event is last]
     taken = [Taken(event.at, event.who, event.start, event.why, event.login) for event in own if event.what == TAKEN]
-    by = approvals_by(store, own[-1].id if own else base)
-    approved = [approved_of(by[part.origin.id], part) for part in parts if part.origin.id in by]
-    return HandedIn(store, parts, taken, approved)
+    there, by = HandedIn(store, parts, taken), approvals_by(store, own[-1].id if own else base)
+    counting = (part for part in parts if part.origin.id in by and there.left_of(part))
+    there.approved = [approved_of(by[part.origin.id], part) for part in counting]
+    return there
 
 
 def approvals_by(store: Store, until: int) -> dict[int, Event]:

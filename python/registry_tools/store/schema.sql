@@ -78,10 +78,13 @@ CREATE VIEW filed AS
 -- What others know of
 CREATE VIEW released AS
   SELECT * FROM filed WHERE date <= (SELECT max(date) FROM events WHERE what = 'released');
--- What stands behind each event that filed or undid a day: of first texts, the last one
+-- What stands behind each event that filed or undid a day, with who handed it in first and when: of first texts, the
+-- last one
 CREATE VIEW handed AS
-  SELECT * FROM events AS own WHERE what = 'handed' AND (kind <> 'first'
-    OR NOT EXISTS (SELECT 1 FROM events WHERE base = own.base AND what = 'handed' AND kind = 'first' AND id > own.id));
+  SELECT own.id, own.base, own.of, own.kind, own.name, own.start, own.count, own.text, own.date, first.at, first.login, first.who
+  FROM events AS own JOIN events AS first ON first.id = coalesce(own.of, own.id)
+  WHERE own.what = 'handed' AND (own.kind <> 'first' OR NOT EXISTS (SELECT 1 FROM events AS later
+    WHERE later.base = own.base AND later.what = 'handed' AND later.kind = 'first' AND later.id > own.id));
 -- What is handed in for the next day
 CREATE VIEW handed_for_the_next_day AS
   SELECT * FROM handed WHERE base = coalesce((SELECT max(id) FROM events WHERE what IN ('filed', 'undone')), 0);
