@@ -91,8 +91,8 @@ def target_trials(work: Path) -> Iterator[Trial]:
     before = text.read_bytes()
     yield "month over a pair", told(2, is_read, "month", text, "--pairs", text, report)
     yield "the pair is as it was", None if text.read_bytes() == before else "it is another one"
-    papers = office / "days" / DAY / "statements"
-    yield "papers of a day beside it", told(0, [], "statements", "--day", DAY, papers, *own)
+    papers = office / "papers"
+    yield "papers of a day in it", told(0, [], "statements", "--day", DAY, papers, *own)
     yield "audit of them", told(0, [": 0 differences"], "audit", *own)
     yield "a page at the top", told(0, ["days 2"], "month", office / "month.html", *own)
 

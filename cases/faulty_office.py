@@ -161,8 +161,7 @@ def engine_trials(work: Path) -> Iterator[Trial]:
     ):  # fmt: skip
         note.write_text(text)
         yield f"close by {row}", told(0, [f"settled by {words}\n"], "close", "--date", DAY, *own)
-        line = (office / "journal.csv").read_text().splitlines()[-1]
-        yield f"its line of {row}", None if f",{row},," in line else line
+        yield f"its engine, {row}", differs(events_of(office, "engine", what="filed")[-1], row)
         status, says = (0, "is released") if row.endswith(" proved") else (1, f"{DAY} was settled by {words}")
         copy = shutil.copytree(office, work / "copy")
         yield f"release behind {row}", told(status, [says], "release", DAY, *why, "--office", copy)
