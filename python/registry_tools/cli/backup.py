@@ -1,9 +1,9 @@
 """Makes a copy of a folder's registry.sqlite, also while others work on it, and tells its head, by which ./day audit
 --since knows it again.
 
-FILE is made whole or not at all, for its owner alone. An earlier copy of the same folder gives way to it; any other file
-is left, and the command ends. To go on with a copy, put it into a folder of its own (chmod 700) as registry.sqlite, with
-office.ini beside it.
+FILE is made whole or not at all, for its owner alone. An earlier copy of the same folder gives way to it; any other
+file is left, and the command ends. To go on with a copy, put it into a folder of its own (chmod 700) as
+registry.sqlite, with office.ini beside it.
 """
 import argparse
 

@@ -1,9 +1,9 @@
 """Makes registry.sqlite of a folder that version 1.1 made: all its days with their texts, who did what, the names, and
-what is handed in for the next day. Each sum is compared with that of its journal, and each day is looked at as its audit
-did: a folder with a fault is told so in the same words, and nothing is made.
+what is handed in for the next day. Each sum is compared with that of its journal, and each day is looked at as its
+audit did: a folder with a fault is told so in the same words, and nothing is made.
 
-The files of version 1.1 stay as they are, and no command reads them any more. The file begins with the old journal: so a
-head or an anchor of before is still one of the folder. Of days that were taken back version 1.1 kept no texts.
+The files of version 1.1 stay as they are, and no command reads them any more. The file begins with the old journal: so
+a head or an anchor of before is still one of the folder. Of days that were taken back version 1.1 kept no texts.
 
 exit status: 0 if the folder is upgraded, 3 if it has faults.
 """

@@ -30,7 +30,7 @@ def run(said: argparse.Namespace) -> int:
     settler = None if said.program is None else lambda: settler_of(said.program, "--program")
     own = verify(said.day, said.report, settler)
     counts, difference = (own.instructions, own.accounts), own.difference
-    row: list[showing.Cell] = [str(said.day), str(said.report), *counts, "no" if difference else "yes", *showing.fault_row(difference)]
+    row: list[showing.Cell] = [str(said.day), str(said.report), *counts, "no" if difference else "yes"]
     so = f"{said.report} is what the rules make of {said.day}: instructions {counts[0]}, accounts {counts[1]}"
-    showing.show_or_tell(said, COLUMNS, [row], lambda: f"{difference or so}\n")
+    showing.show_or_tell(said, COLUMNS, [[*row, *showing.fault_row(difference)]], lambda: f"{difference or so}\n")
     return FOUND if difference else 0

@@ -1,5 +1,5 @@
-"""What a folder of version 1.1 has beside its days: the names, as the lines of its journal added them; and an index, which
-has the tables of questions."""
+"""What a folder of version 1.1 has beside its days: the names, as the lines of its journal added them; and an index,
+which has the tables of questions."""
 import contextlib
 import sqlite3
 from collections.abc import Iterator

@@ -5,7 +5,7 @@ before it and its own.
   before,line
 
 EVENT is `filed`, `undone`, `released` or `labelled`. DAY to HANDED are the SHA-256 of the files of the day as they lie
-there, LABELS that of labels.csv. Older journals lack some columns; behind a later heading stand lines with more of them.
+there, LABELS that of labels.csv. Older journals lack some columns; behind a later heading stand lines with more.
 """
 import csv
 import datetime

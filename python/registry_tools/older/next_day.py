@@ -1,5 +1,5 @@
-"""What was handed in for the next day of a folder of version 1.1, with who says so, what was asked for, and what approves
-something: each file of next/ by itself."""
+"""What was handed in for the next day of a folder of version 1.1, with who says so, what was asked for, and what
+approves something: each file of next/ by itself."""
 import csv
 import re
 from pathlib import Path

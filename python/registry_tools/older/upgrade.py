@@ -10,7 +10,7 @@ from pathlib import Path
 
 from registry_tools import opening, steps
 from registry_tools.errors import FileFault
-from registry_tools.office import approvals, handed as todays, people
+from registry_tools.office import approvals, handed as todays
 from registry_tools.texts.labels import that_count
 from registry_tools.office.office import Office
 from registry_tools.office.waits import waits_text
@@ -26,7 +26,7 @@ from registry_tools.questions.seams import Filed, compare_texts, look_at_day, pa
 from registry_tools.store import daybook, events, file
 from registry_tools.store.events import APPROVED, ASKED, HANDED, LABELLED, NO_DATE, SOURCE, TAKEN, UPGRADED, Event
 from registry_tools.store.file import Store
-from registry_tools.texts.rows import rows_of_text, sum_of, text_of_rows
+from registry_tools.texts.rows import KeptText, rows_of_text, sum_of, text_of_rows
 
 # How gzip begins what it packs without a name and a time, and how much stands behind it: the sum and the size.
 GZIP_HEAD, GZIP_TAIL = 10, 8
@@ -52,7 +52,7 @@ def upgrade(path: Path, login: str, who: str) -> Upgraded:
     opening.guard(path)
     file.must_be_own(path, os.stat(path))
     if os.path.lexists(place):
-        raise FileFault(place, 0, "", "a file that is there already", "no such file: the folder is upgraded, or a new one")
+        raise FileFault(place, 0, "", "a file that is there already", "no such file: the folder is no older one")
     with places.alone(path):
         folder = places.opened(path)
         beside = path / name_beside(file.NAME)
@@ -90,10 +90,14 @@ class Making:
 
     def __post_init__(self) -> None:
         office = Office(self.folder.path, self.folder.settings, self.store)
-        self.found = OlderFound(office, lambda event, column: faults.text_of(self.found, event, column), folder=self.folder)
-        # The events that were made, by the lines of the journal; and what is handed in for the next day, by its place.
+        self.found = OlderFound(office, self.text_of, folder=self.folder)
+        # The events that were made, by the lines of the journal.
         self.made: dict[str, Event] = {}
         self.before: Filed | None = None
+
+    def text_of(self, event: Event, column: str) -> KeptText:
+        """A text of a day by the path of its file."""
+        return faults.text_of(self.found, event, column)
 
     def make(self) -> None:
         """Looks at the folder, and makes all."""
@@ -102,7 +106,8 @@ class Making:
         text = self.store.texts.put(old.text.encode("utf-8", "surrogateescape"))
         self.add(Event(UPGRADED, login=self.login, who=self.who, count=len(old.events), text=text))
         with self.found.adding():
-            that_count(rows_of_text(self.folder.path / LABELS, self.folder.labels().decode("utf-8-sig", "surrogateescape")))
+            labels = self.folder.labels().decode("utf-8-sig", "surrogateescape")
+            that_count(rows_of_text(self.folder.path / LABELS, labels))
         names = index.names_of(self.folder)
         for event in progress.over(old.events, "upgrading the days", len(old.events), step=1):
             self.add_event(event, names.get(event.line, b""))
@@ -122,12 +127,12 @@ class Making:
 
     def add_event(self, old: journal.Event, names: bytes) -> None:
         """Adds the event of a line of the journal. Of a day that was taken back, version 1.1 kept no texts."""
-        said = {"at": old.at, "login": old.login, "who": old.who, "why": old.why, "people": old.people}
-        own = Event(date=old.date, first=old.first, next=old.next, approved=old.approved, what=old.event, **said)  # type: ignore[arg-type]
+        by = Event(old.event, old.at, old.login, old.who, old.why, people=old.people, date=old.date)
+        own = replace(by, first=old.first, next=old.next, approved=old.approved)
         if old.event == journal.FILED:
             own = self.filed(old, own) if self.found.filed.get(old.date) is old else self.add(with_engine(own, old))
         elif old.event == journal.LABELLED:
-            own = self.add(Event(LABELLED, date=old.date, text=self.store.texts.put(names), **said))  # type: ignore[arg-type]
+            own = self.add(replace(by, text=self.store.texts.put(names)))
         else:
             days = self.store.events.days
             of = next((day for day in reversed(days) if day.date == old.date), None)
@@ -199,23 +204,22 @@ class Making:
         rows = {kind: self.items(kind, place, old) for kind in KINDS if old is not None and kind != FIRST}
         for part in there.parts:
             text = self.text_of_part(there, part, place, rows, old)
-            said = {"at": part.at, "login": part.login, "who": part.who}
-            own = self.add(Event(
-                HANDED, kind=part.kind, name=part.name, start=part.start, count=part.count, date=part.earliest or NO_DATE,
-                text=self.store.texts.put(text), **said,  # type: ignore[arg-type]
-            ))  # fmt: skip
+            by = Event(HANDED, part.at, part.login, part.who, name=part.name, date=part.earliest or NO_DATE)
+            kept = self.store.texts.put(text)
+            own = self.add(replace(by, kind=part.kind, start=part.start, count=part.count, text=kept))
             made |= dict.fromkeys(range(part.start, part.start + part.count), own)
             for source in part.sources:
-                content = self.store.texts.put(bytes_in(tables / source.file))
-                kind = source.file.partition("-")[2]
-                self.add(Event(SOURCE, of=own.id, kind=kind, name=source.name, text=content, **said))  # type: ignore[arg-type]
+                kept, kind = self.store.texts.put(bytes_in(tables / source.file)), source.file.partition("-")[2]
+                self.add(Event(
+                    SOURCE, part.at, part.login, part.who, of=own.id, kind=kind, name=source.name, text=kept,
+                ))  # fmt: skip
         for taken in there.taken:
             of = made[taken.place].id if taken.place in made else None
             self.add(Event(TAKEN, taken.at, taken.login, taken.who, taken.why, of=of, start=taken.place))
-        for by in there.approved if old is not None else ():
-            if by.place in made:
-                where = todays.places(by.place, by.place + made[by.place].count)
-                self.add(Event(APPROVED, by.at, by.login, by.who, of=made[by.place].id, name=where))
+        for second in there.approved if old is not None else ():
+            if second.place in made:
+                where = todays.places(second.place, second.place + made[second.place].count)
+                self.add(Event(APPROVED, second.at, second.login, second.who, of=made[second.place].id, name=where))
         if old is None:
             self.add_approvals(there, made)
 

@@ -1,6 +1,6 @@
 """The texts of a folder as plain files, with SHA256SUMS that `sha256sum -c` reads.
 
-  DATE/day.csv, report.csv, waiting.csv, waits.csv   a settled day, its report, what waited before it and waits behind it
+  DATE/day.csv, report.csv, waiting.csv, waits.csv   a settled day, its report, what waited before it and waits then
   DATE/do.csv, changes.csv, edits.csv, work.csv      what was handed in for it, as far as it counts
   DATE/by-hand.csv                                   who changed what by hand, and why
   DATE/tables/NUMBER-NAME                            tables and mappings of which rows were made

@@ -123,7 +123,8 @@ class Again:
     def faults_of(self, table: str) -> Faults:
         """The same of one table: the first row that is strange, and the first that lacks."""
         of_days = "date IN (SELECT date FROM again.compared)"
-        where = of_days if table in daybook.BY_DATE else f"record IN (SELECT record FROM {{}}.instructions WHERE {of_days})"
+        of_records = f"record IN (SELECT record FROM {{}}.instructions WHERE {of_days})"
+        where = of_days if table in daybook.BY_DATE else of_records
         here, made = (f"SELECT * FROM {place}.{table} WHERE {where.format(place)}" for place in ("main", "again"))
         strange, lacking = (
             self.db.execute(f"{own} EXCEPT {other} LIMIT 1").fetchone() for own, other in ((here, made), (made, here))

@@ -208,7 +208,8 @@ def faults_of(db: sqlite3.Connection, events: Events) -> Iterator[FileFault]:
             yield FileFault(events.path, 0, where, shown(str(error)), f"an event: {BACK}")
             continue
         if event.id != place:
-            yield FileFault(events.path, 0, where, str(event.id), f"{place}, the number behind the event before: {BACK}")
+            expected = f"{place}, the number behind the event before: {BACK}"
+            yield FileFault(events.path, 0, where, str(event.id), expected)
         if event.before != events.last_line:
             yield FileFault(events.path, 0, f"{where}, before", shown(event.before), f"{events.last_line}: {BACK}")
         if event.line != (line := event.own_line()):
@@ -230,7 +231,8 @@ def does_not_follow(events: Events, event: Event) -> str:
         if last and event.first != last.next:
             return f"the first record {last.next}"
     elif event.what == UNDONE:
-        if last is None or (event.of, event.date, event.first, event.next) != (last.id, last.date, last.first, last.next):
+        said = event.of, event.date, event.first, event.next
+        if last is None or said != (last.id, last.date, last.first, last.next):
             return f"{last.date}, the last day" if last else "a day that was filed before"
         if events.is_released():
             return f"no undoing of {last.date}, which was released"
