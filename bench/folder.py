@@ -4,9 +4,8 @@
 usage: folder.py FOLDER [--days N] [--accounts N] [--instructions N] [--four-eyes]
 
 The first day is made by `./day init` and `./day close --second`. Each later one is settled by the second answer, which
-asks for the accounts that the day touches alone; all other blocks go on as they are. Its files and its line of the
-journal are written as `close` writes them, but packed less: that takes half a second a day, where `close` looks at
-everything. So `./day audit --second` must find no difference in the folder. The instructions are transfers, some of
+asks for the accounts that the day touches alone; all other blocks go on as they are. Its texts, events and rows of the
+daybook are kept as `close` keeps them, but packed less, and without looking at everything. So `./day audit --second` must find no difference in the folder. The instructions are transfers, some of
 which are refused, surrenders, emissions and additions to trusted lists; nothing waits behind a day. The same arguments
 always give the same days. A folder that is there goes on where it ends. With --four-eyes `office.ini` names three
 people, of whom one handed in each file, another one approved it and closed the day, and a third one approved that.
@@ -14,13 +13,12 @@ people, of whom one handed in each file, another one approved it and closed the 
 import argparse
 import contextlib
 import datetime
-import gzip
 import itertools
 import random
 import sys
+import zlib
 from collections.abc import Iterable, Iterator
 from concurrent.futures import Future, ThreadPoolExecutor
-from dataclasses import replace
 from pathlib import Path
 
 TOP = Path(__file__).resolve().parents[1]
@@ -28,9 +26,15 @@ sys.path[:0] = [str(TOP / "python"), str(TOP / "bench")]
 
 import days  # noqa: E402
 
-from registry_tools import main as commands  # noqa: E402
-from registry_tools.office import files, folder, handed, journal, layout, people, settling  # noqa: E402
+from registry_tools import layout, main as commands  # noqa: E402
+from registry_tools.office import approvals, folder, handed, people  # noqa: E402
+from registry_tools.office.office import Office  # noqa: E402
+from registry_tools.pairs import settling  # noqa: E402
 from registry_tools.second import rules  # noqa: E402
+from registry_tools.store import daybook, past  # noqa: E402
+from registry_tools.store.events import APPROVED, FILED, HANDED, Event  # noqa: E402
+from registry_tools.store.past import PastDay  # noqa: E402
+from registry_tools.store.texts import sum_of  # noqa: E402
 from registry_tools.texts import pending  # noqa: E402
 
 FIRST_DAY, CALENDAR_BEGIN, DECEMBER = datetime.date(2025, 1, 2), datetime.date(2024, 12, 2), (12, 31)
@@ -187,71 +191,62 @@ class Maker:
                 settings.write(PEOPLE)
 
     def go_on(self) -> None:
-        """The later days, one after another. What is packed meanwhile is written with the journal, ten days at once."""
-        office = folder.read_office(self.path)
-        last, known = office.last(), {event.date for event in office.journal.filed()}
-        dates = [date for date in self.dates if date not in known]
-        assert last is not None
-        number, rows = accounts_of(gzip.decompress(files.bytes_in(office.file(last, "report"))))
-        book, begun = Book(rows), list[tuple[datetime.date, int, int, dict[str, Future[bytes]]]]()
-        for place, date in enumerate(dates, 1):
-            do = text_of(instructions(date, self.accounts, self.count))
-            day = text_of(heading(date, number, self.calendar)) + book.rows() + do + b"end\n"
-            first = number
-            head = [*heading(date, first, self.calendar), *do.decode().splitlines()]
-            report = book.settle(rules.day_of_fields(row.split(",") for row in head))
-            number += self.count
-            contents = {"day": day, "report": report, "do": do}
-            packed = {key: self.pool.submit(stored, key, own) for key, own in contents.items()}
-            begun.append((date, first, number, packed))
-            if place % 10 == 0 or date == dates[-1]:
-                self.keep(begun)
-                begun = []
-                print(f"{date}: {place} of {len(dates)}", file=sys.stderr, flush=True)
+        """The later days, one after another. What is packed meanwhile is kept ten days at once."""
+        with folder.at(self.path) as office:
+            last, known = office.last(), {event.date for event in office.events.days}
+            dates = [date for date in self.dates if date not in known]
+            assert last is not None
+            number, rows = accounts_of(office.store.texts.get(last.report))
+            self.before = PastDay(*past.read(past.pair_of(office.store, last)), None, [])
+            book, begun = Book(rows), list[Made]()
+            for place, date in enumerate(dates, 1):
+                do = text_of(instructions(date, self.accounts, self.count))
+                day = text_of(heading(date, number, self.calendar)) + book.rows() + do + b"end\n"
+                head = [*heading(date, number, self.calendar), *do.decode().splitlines()]
+                report = book.settle(rules.day_of_fields(row.split(",") for row in head))
+                begun.append((date, number, number + self.count, [self.packed(own) for own in (day, report, do)]))
+                number += self.count
+                if place % 10 == 0 or date == dates[-1]:
+                    with office.store.change():
+                        for made in begun:
+                            self.keep(office, *made)
+                    begun = []
+                    print(f"{date}: {place} of {len(dates)}", file=sys.stderr, flush=True)
 
-    def keep(self, begun: list[tuple[datetime.date, int, int, dict[str, Future[bytes]]]]) -> None:
-        """Writes days, their lines of the journal, and the empty next/ behind the last one."""
-        office = folder.read_office(self.path)
-        last = office.last()
-        assert last is not None
-        text, line = office.journal.text, last.line
-        for date, first, number, packed in begun:
-            lies = {key: own.result() for key, own in packed.items()}
-            event = self.filed(office, line, (date, first, number), lies)
-            text, line = f"{text}{event.row()}\n", event.line
-        made = pending.Made(begun[-1][0], begun[-1][2])
-        files.replace(office.next_folder / handed.WAITS, pending.text_of([], made).encode())
-        handed.HandedIn(office.next_folder, line).keep()
-        files.replace(office.path / "journal.csv", text.encode())
+    def packed(self, content: bytes) -> tuple[bytes, Future[bytes]]:
+        """A text, which is packed meanwhile."""
+        return content, self.pool.submit(zlib.compress, content, LEVEL)
 
-    def filed(
-        self, office: folder.Office, before: str, day: tuple[datetime.date, int, int], lies: dict[str, bytes]
-    ) -> journal.Event:
-        """Writes the files of a day, and answers its line of the journal."""
-        date, first, number = day
-        name, at, place = f"{date}-do.csv", f"{date}T08:00:00Z", office.day_folder(date)
+    def keep(self, office: Office, date: datetime.date, first: int, behind: int, texts: "list[Packed]") -> None:
+        """Files a day, in a change of the folder."""
+        store = office.store
+        sums = [sum_of(content) for content, _ in texts]
+        for (content, packed), own in zip(texts, sums):
+            store.db.execute("INSERT OR IGNORE INTO texts VALUES (?, ?, ?)", (own, len(content), packed.result()))
         by, closer, second = (ANNA, BEN, CARLA) if self.four_eyes else (NOBODY, NOBODY, "")
-        part = handed.Part(
-            at, by, handed.DO, 1, self.count, None, "0001-do.csv", files.sum_of(lies["do"]), name, second and by
-        )
-        approved = [handed.Approved(f"{date}T09:00:00Z", closer, 1, closer)] if second else []
-        all_files = {
-            **dict.fromkeys(journal.FILES, b""), **lies,
-            "waiting": pending.text_of([], pending.Made(date, first)).encode(),
-            "handed": handed.HandedIn(place, before, [part], [], approved).text().encode(),
-        }  # fmt: skip
-        place.mkdir(exist_ok=True)
-        for key, content in all_files.items():
-            (place / journal.FILES[key]).write_bytes(content)
-        sums = {key: files.sum_of(content) for key, content in all_files.items()}
-        closed, engine = f"{date}T17:00:00Z", settling.SECOND_ANSWER.row()
-        event = journal.Event(journal.FILED, closed, closer, date, first, number, sums, "", before, engine=engine)
-        return replace(event, login=closer, approved=second, people=office.people.sum()) if second else event
+        day_sum, report_sum, do_sum = sums
+        said = {"kind": handed.DO, "name": f"{date}-do.csv", "start": 1, "count": self.count, "text": do_sum}
+        store.add(Event(HANDED, at=f"{date}T08:00:00Z", login=by, who=by, **said))  # type: ignore[arg-type]
+        if second:
+            there = handed.for_the_next_day(store)
+            own, name = approvals.sum_of_part(there, there.parts[0]), handed.places(1, self.count + 1)
+            of = there.parts[0].event.id
+            store.add(Event(APPROVED, at=f"{date}T09:00:00Z", login=closer, who=closer, of=of, sum=own, name=name))
+        waits = [store.texts.put(pending.text_of([], pending.Made(date, own)).encode()) for own in (first, behind)]
+        event = store.add(Event(
+            FILED, at=f"{date}T17:00:00Z", login=closer, who=closer, date=date, first=first, next=behind, text=day_sum,
+            report=report_sum, waiting=waits[0], waits=waits[1], engine=settling.SECOND_ANSWER.row(), approved=second,
+            people=office.people.sum() if second else "",
+        ))  # fmt: skip
+        before = self.before
+        read = past.read(past.pair_of(store, event), before)
+        self.before = PastDay(*read, before.report, before.day.heading)
+        daybook.add_day(store.db, self.before, (day_sum, report_sum))
 
 
-def stored(key: str, content: bytes) -> bytes:
-    """A file as it lies in the folder."""
-    return gzip.compress(content, LEVEL, mtime=0) if journal.FILES[key].endswith(files.COMPRESSED) else content
+# A text with what packs it; and a day: its date, its records, and its text, report and instructions.
+Packed = tuple[bytes, Future[bytes]]
+Made = tuple[datetime.date, int, int, list[Packed]]
 
 
 def accounts_of(report: bytes) -> tuple[int, bytes]:
