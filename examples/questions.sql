@@ -1,5 +1,6 @@
--- Questions to the database that ./day db FILE makes: sqlite3 FILE < examples/questions.sql asks all of them. They are
--- about the week of examples/week: put your own dates and numbers in the place of its own.
+-- Questions to the database that ./day db FILE makes: sqlite3 FILE < examples/questions.sql asks all of them. The file
+-- of a folder answers them, too: sqlite3 -readonly FOLDER/registry.sqlite < examples/questions.sql. They are about the
+-- week of examples/week: put your own dates and numbers in the place of its own.
 --
 -- A table has each thing once; accounts_by_day and its lists have a row only for days on which something of an account
 -- changed:

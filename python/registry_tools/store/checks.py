@@ -1,6 +1,7 @@
 """What is wrong with the file of a folder, whatever it says: pages that can't be read, tables and triggers that lack or
 are others, values that can't stand there, and rows that lead nowhere."""
 import functools
+import re
 import sqlite3
 from collections.abc import Callable, Iterator
 from pathlib import Path
@@ -11,6 +12,7 @@ from registry_tools.store.texts import put_back
 
 # How many faults of pages SQLite tells at most.
 MOST_TOLD = 100
+COMMENT = re.compile("--[^\n]*")
 Faults = Iterator[FileFault]
 
 
@@ -56,13 +58,8 @@ def of_statements(db: sqlite3.Connection, path: Path) -> Faults:
     for name in sorted({*expected, *there}, key=repr):
         own, wanted = there.get(name, ""), expected.get(name, "")
         if own != wanted:
-            found, made = (in_one_line(text) if text else f"no such {name[0]}" for text in (own, wanted))
+            found, made = (shown(text) if text else f"no such {name[0]}" for text in (own, wanted))
             yield FileFault(path, 0, " ".join(name), found, f"{made}: {put_back()}")
-
-
-def in_one_line(statement: str) -> str:
-    """A statement as a fault tells it."""
-    return shown(" ".join(statement.split()))
 
 
 def made_of(script: str) -> dict[tuple[str, str], str]:

@@ -1,4 +1,4 @@
--- The tables that ./day db makes. Dates are texts as 2026-12-14, amounts are whole allowances or tonnes.
+-- The tables of questions: what settled days have. Dates are texts as 2026-12-14, amounts are whole allowances or tonnes.
 CREATE TABLE days (
   date TEXT PRIMARY KEY,
   first_record INTEGER NOT NULL,
