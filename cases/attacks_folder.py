@@ -1,6 +1,6 @@
-"""What other logins on the machine try with a folder of days that one login owns: to look into it, to change it, to have
-its owner open something of theirs in its place or run a program of theirs; and to be two people. Each attempt says what
-it must get."""
+"""What other logins on the machine try with a folder of days that one login owns: to look into it, to change it, to
+have its owner open something of theirs in its place or run a program of theirs; and to be two people. Each attempt says
+what it must get."""
 from __future__ import annotations
 
 import os
@@ -26,7 +26,8 @@ SECRET = "[office]\nlayout = 1\nprogram = the-secret-of-bert\n"
 LINK = """
 import shutil
 place, to = sys.argv[1:]
-shutil.rmtree(place) if os.path.isdir(place) and not os.path.islink(place) else os.path.lexists(place) and os.unlink(place)
+shutil.rmtree(place, ignore_errors=True)
+os.path.lexists(place) and os.unlink(place)
 os.symlink(to, place)
 """
 BLOCK = "account,300126,trading,9017,open,no,no,0,0,0\nuser,4201,both\n"
@@ -36,18 +37,16 @@ BLOCK = "account,300126,trading,9017,open,no,no,0,0,0\nuser,4201,both\n"
 
 
 def stranger_attempts(work: Path) -> Attempts:
-    """Nobody but its owner looks into a folder or changes it: neither who shares a group, nor who does not, nor root."""
+    """Nobody but its owner looks into a folder or changes it: not who shares a group, nor who does not, nor root."""
     with made("anna", "bert", "cora") as logins:
         base = owned(work, logins)
         acts = base.file("acts.csv", ACT.format(1))
-        commands: list[list[object]] = [
+        commands: list[list[str]] = [
             ["status"], ["find"], ["audit"], ["balance", "100210"], ["hand-in", acts], CHANGE, CLOSE,
             ["undo", MONDAY, *WHY], ["approve", "1"], ["backup", "/tmp/rgy-copy"], ["unpack", "/tmp/rgy-unpacked"],
             ["label", "holder", "5501", "X", *WHY], ["release", MONDAY, "--yes", *WHY],
         ]  # fmt: skip
-        for name, mode, way in (
-            ("closed", 0o700, []), ("that all may read", 0o755, []), ("that a group may write", 0o770, ["chmod go-w"]),
-        ):  # fmt: skip
+        for name, mode in (("closed", 0o700), ("that all may read", 0o755), ("that a group may write", 0o770)):
             base.path.chmod(mode)
             for login, who in ((base.anna, "a colleague"), (base.cora, "a stranger")):
                 for words in commands:
@@ -56,7 +55,8 @@ def stranger_attempts(work: Path) -> Attempts:
                     yield f"{who} at a folder {name}: {words[0]}", base.refuses(login, has, *words)
             if mode == 0o770:
                 for words in (["status"], CLOSE):
-                    yield f"its owner, at a folder {name}: {words[0]}", base.refuses(base.bert, way, *words)
+                    told_of = base.refuses(base.bert, ["chmod go-w"], *words)
+                    yield f"its owner, at a folder {name}: {words[0]}", told_of
         base.path.chmod(0o700)
         has = [f"{base.path}: found a file or folder of another login"]
         for word in ("status", "audit", "find"):
@@ -69,14 +69,15 @@ def stranger_attempts(work: Path) -> Attempts:
 
 
 def link_attempts(work: Path) -> Attempts:
-    """A folder, file or link of another login in the place of one's own is refused by its name, and what a link leads to
-    stays as it is."""
+    """A folder, file or link of another login in the place of one's own is refused by its name, and what a link leads
+    to stays as it is."""
     with made("anna", "bert", "cora") as logins:
         base = owned(work, logins)
         acts, secret = base.file("acts.csv", ACT.format(1)), secret_of(base)
         for name, words in (
             (FILE, ["status"]), (FILE, CLOSE), (FILE, ["audit"]), (JOURNAL, CHANGE), (JOURNAL, ["status"]),
-            ("office.ini", ["status"]), ("office.ini", CLOSE), (FILE, ["hand-in", acts]), (FILE, ["undo", MONDAY, *WHY]),
+            ("office.ini", ["status"]), ("office.ini", CLOSE), (FILE, ["hand-in", acts]),
+            (FILE, ["undo", MONDAY, *WHY]),
         ):  # fmt: skip
             folder = base.copy("links")
             base.bert.does(LINK, folder.path / name, secret)
@@ -252,7 +253,8 @@ def of_people(work: Path, name: str, rights: dict[str, str], four_eyes: str = ""
     office = work / name
     own = ["--office", str(office)]
     must_do(["init", str(office), str(WEEK / "monday.csv")], ["close", "--date", MONDAY, "--second", *own])
-    with_lines(office, {**{login: f"{login}: {words}" for login, words in rights.items()}, LOGIN: "x: proxy"}, four_eyes)
+    named = {login: f"{login}: {words}" for login, words in rights.items()}
+    with_lines(office, {**named, LOGIN: "The desk: proxy"}, four_eyes)
     return office, own
 
 

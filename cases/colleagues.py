@@ -1,4 +1,4 @@
-"""A folder of days that one login owns, and other logins on the same machine, for trials of what hostile ones can do."""
+"""A folder of days that one login owns, and other logins on the machine, for trials of what hostile ones can do."""
 from __future__ import annotations
 
 import hashlib
@@ -57,7 +57,7 @@ class Owned:
         return {str(path.relative_to(self.path)): path.read_bytes() for path in files}
 
     def refuses(self, login: Login, has: list[str], *words: object) -> object:
-        """What is wrong, if a command is not refused with these words, tells anything of a day, or changes something."""
+        """What is wrong, if a command is not refused with these words, tells something of a day, or changes it."""
         before, (ended, says) = self.stands(), login.day(*words, *self.own, **self.let)
         lacking = [part for part in has if part not in says]
         if ended not in (2, 3) or lacking or "Traceback" in says or "records 610" in says:

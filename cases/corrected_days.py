@@ -62,7 +62,8 @@ def copy_of(base: Path, name: str) -> tuple[Path, list[str]]:
 def texts_of(office: Path) -> dict[str, bytes]:
     """What counts of each day: its texts, and what came into it."""
     days = [date for (date,) in rows_of(office, "SELECT date FROM filed")]
-    found = {f"{date} {own}": text_of(office, date, own) for date in days for own in ("text", "report", "waiting", "waits")}
+    columns = ("text", "report", "waiting", "waits")
+    found = {f"{date} {own}": text_of(office, date, own) for date in days for own in columns}
     with folder.at(office) as there:
         for event in there.events.days:
             parts = handed.for_a_day(there.store, event).contents()
@@ -173,7 +174,8 @@ def first_trials(work: Path) -> Iterator[Told]:
     yield "the first day", told(0, ["is corrected"], "correct", MONDAY, *without, *WHY, "--yes", *own)
     with folder.at(office) as there:
         filed = handed.for_a_day(there.store, there.events.days[0])
-        yield "what stays", differs([(part.start, part.name) for part in filed.parts], [(1, "monday.csv"), (7, "11.csv")])
+        stays = [(part.start, part.name) for part in filed.parts]
+        yield "what stays", differs(stays, [(1, "monday.csv"), (7, "11.csv")])
         yield "who approved it", differs([(each.place, each.login) for each in filed.approved], [(7, f"{login}:eva")])
         yield "its rows", differs(filed.contents()["do"].decode(), f"{row}11\n")
     yield "the first day: audit", told(0, ["0 differences"], "audit", "--second", *own)

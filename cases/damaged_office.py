@@ -1,5 +1,5 @@
-"""Trials of folders that somebody has touched by hand, and of names: no command writes an answer over a file of the folder,
-and what is wrong is told where it stands."""
+"""Trials of folders that somebody has touched by hand, and of names: no command writes an answer over a file of the
+folder, and what is wrong is told where it stands."""
 import contextlib
 import os
 import shutil
@@ -57,13 +57,14 @@ def moved_trials(work: Path) -> Iterator[Trial]:
     office, own = two_days(work, "moved")
     path, kept = office / FILE, work / "kept"
     path.rename(kept)
-    for words in (["status"], ["find"], ["audit"], [*CLOSE, "2025-04-02"], ["history", 1]):
+    commands: list[Words] = [["status"], ["find"], ["audit"], [*CLOSE, "2025-04-02"], ["history", 1]]
+    for words in commands:
         has = [f"{path}: it is not there: put it back from a copy"]
         yield f"{words[0]} without the file", told(3, has, *words, *own)
     yield "nothing was made", "something is there" if path.exists() else None
     kept.rename(path)
     (office / "note.txt").write_text("mine\n")
-    yield "a note beside it", told(0, [f"{'2025-04-02'} is settled"], *CLOSE, "2025-04-02", *own)
+    yield "a note beside it", told(0, ["2025-04-02 is settled"], *CLOSE, "2025-04-02", *own)
     yield "the note stays", None if (office / "note.txt").read_text() == "mine\n" else "it is gone"
     for what, mode in ((path, 0o620), (office, 0o770)):
         before = what.stat().st_mode & 0o777

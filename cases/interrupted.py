@@ -101,7 +101,8 @@ def with_library(script: Path, run: Callable[[str], int]) -> int:
         made = ["cc", "-shared", "-fPIC", "-O1", "-o", library, str(TOP / "tools/interrupt.c"), "-ldl"]
         subprocess.run(made, check=True)
         more = {"INTERRUPT": library, "LD_PRELOAD": library}
-        return subprocess.run([sys.executable, script, *sys.argv[1:]], env={**os.environ, **more}, check=False).returncode
+        words = [sys.executable, str(script), *sys.argv[1:]]
+        return subprocess.run(words, env={**os.environ, **more}, check=False).returncode
 
 
 def restore(office: Path, kept: Path) -> None:

@@ -101,7 +101,8 @@ class Month:
 
     def first_place(self) -> int:
         """The place behind all that was handed in."""
-        return rows_of(self.office, "SELECT coalesce(max(start + count), 1) FROM handed_for_the_next_day")[0][0]
+        ((first,),) = rows_of(self.office, "SELECT coalesce(max(start + count), 1) FROM handed_for_the_next_day")
+        return int(first)
 
     def next(self, place: int) -> str | None:
         """One more day: by paths, and by the folder."""

@@ -108,7 +108,8 @@ def told_of(there: handed.HandedIn) -> dict[str, list[list[str]]]:
         for part in there.parts
     ]
     taken = [[own.who, str(own.place), own.why, own.login] for own in there.taken]
-    return {"handed": parts, "taken": taken, "approved": [[own.who, str(own.place), own.login] for own in there.approved]}
+    approved = [[own.who, str(own.place), own.login] for own in there.approved]
+    return {"handed": parts, "taken": taken, "approved": approved}
 
 
 class MonthOfThree(Month):

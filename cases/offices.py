@@ -123,11 +123,13 @@ def state_of(path: Path) -> object:
     if not (path / FILE).exists():
         return None
     with opened(path) as db:
-        texts = {own: without_times(zlib.decompress(packed)) for own, packed in db.execute("SELECT sum, packed FROM texts")}
+        kept = db.execute("SELECT sum, packed FROM texts")
+        texts = {own: without_times(zlib.decompress(packed)) for own, packed in kept}
         found = db.execute("SELECT * FROM events ORDER BY id")
         columns = [own[0] for own in found.description]
         events = [
-            tuple(texts.get(value, value) for name, value in zip(columns, row) if name not in OF_ITS_TIME) for row in found
+            tuple(texts.get(value, value) for name, value in zip(columns, row) if name not in OF_ITS_TIME)
+            for row in found
         ]
         named = "SELECT name FROM sqlite_master WHERE type = 'table' AND name NOT LIKE 'sqlite_%' ORDER BY name"
         tables = [own for (own,) in db.execute(named) if own not in ("events", "texts", NO_STATE)]
@@ -145,7 +147,8 @@ def fault_of_file(path: Path) -> str | None:
         said = [own for (own,) in db.execute("PRAGMA integrity_check")]
         keys = db.execute("PRAGMA foreign_key_check").fetchall()
     left = sorted({own.name for own in path.iterdir()} - KNOWN)
-    return f"integrity_check {said}, foreign_key_check {keys}, beside it {left}" if said != ["ok"] or keys or left else None
+    told_of = f"integrity_check {said}, foreign_key_check {keys}, beside it {left}"
+    return told_of if said != ["ok"] or keys or left else None
 
 
 # What somebody changes by other ways than commands.

@@ -482,8 +482,8 @@ def at_once(*words: str) -> "subprocess.Popen[bytes]":
 
 
 def system_trials(work: Path) -> Iterator[Told]:
-    """One login has a folder: another one gets nothing, and nobody works on a folder of another one, root neither. Raises
-    LeftOut where this process can't take on another login."""
+    """One login has a folder: another one gets nothing, and nobody works on a folder of another one, root neither.
+    Raises LeftOut where this process can't take on another login."""
     other = other_login()
     work.mkdir()
     office, own = settled(work, "system", "change", {LOGIN: "Root: all", other: "Other: all"})
