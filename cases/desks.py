@@ -31,7 +31,7 @@ HOST, SECRET = "127.0.0.1:8424", "a-secret-of-these-trials-alone"
 OF_COMMANDS = re.compile(
     r".{0,60}(?:(?<![-\w])--[a-z]|\./day |/dev/shm/|/tmp/|" + re.escape(f"{TOP}/") + r"|[A-Z]\.md\b).{0,60}"
 )
-DOCUMENTS, TYPED = ("/rules.html", "/formats.html"), ("/tmp/x",)
+DOCUMENTS, TYPED = ("/rules.html", "/formats.html"), ("--to=/tmp/x", "/tmp/x")
 # The places where a page said so, by the first line of its request.
 said_of_commands: dict[str, str] = {}
 Fields = dict[str, Any]

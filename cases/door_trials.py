@@ -9,7 +9,9 @@ import signal
 import sqlite3
 import subprocess
 import sys
+import threading
 import time
+import zlib
 from collections.abc import Iterator, Mapping, Sequence
 from email.message import Message
 from http.client import HTTPMessage
@@ -129,6 +131,23 @@ def message(headers: Sequence[Sequence[str]]) -> HTTPMessage:
     return found
 
 
+class Holding:
+    """Somebody who opens a connection, and says half of something."""
+
+    def __init__(self, login: Login, path: Path) -> None:
+        code = f"import socket, sys, time; own = socket.socket(socket.AF_UNIX); own.connect({str(path)!r})"
+        code += "; own.send(b'GET / HT'); print('x', flush=True); sys.stdin.read()"
+        self.process = subprocess.Popen(
+            ["setpriv", f"--reuid={login.user}", f"--regid={login.group}", "--clear-groups", sys.executable, "-I", "-c",
+             code], stdin=subprocess.PIPE, stdout=subprocess.PIPE, stderr=subprocess.DEVNULL,
+        )  # fmt: skip
+        assert self.process.stdout is not None
+        self.process.stdout.readline()
+
+    def end(self) -> None:
+        self.process.communicate()
+
+
 class SocketDesk:
     """`./day desk --socket` at work, by a login of its own. Its log goes to a file."""
 
@@ -150,6 +169,12 @@ class SocketDesk:
 
     def said(self) -> str:
         return self.log.read_text("utf-8", "replace")
+
+    def kill_server(self) -> None:
+        """Kills the process that answers: another one comes in its place."""
+        children = Path(f"/proc/{self.process.pid}/task/{self.process.pid}/children").read_text().split()
+        for number in children:
+            os.kill(int(number), signal.SIGKILL)
 
     def end(self) -> int:
         """Ends it by Ctrl-C, and gives its status."""
@@ -203,6 +228,7 @@ def all_trials(work: Path) -> Told:
             yield from proxy_trials(path, office, anna, bert, proxy, stranger)
             yield from two_trials(path, office, anna, bert, proxy)
             yield from end_trials(path, office, anna, bert, desk)
+            yield from many_trials(path, office, [anna, bert, anna], desk)
         finally:
             status = desk.end()
         yield "Ctrl-C ends it", differs(status, 0)
@@ -267,6 +293,10 @@ def stranger_trials(path: Path, anna: Login, stranger: Login, looks: Login) -> T
         yield f"a stranger who says {header}", nobody.get("/", (header, anna.name)).wrong(403)
     for where in ("/hand-in/look", "/close/settle", "/link", "/end"):
         yield f"a form of a stranger, {where}", nobody.post(where, {"who": anna.name}).wrong(403)
+    held = [Holding(stranger, path) for _ in range(12)]
+    yield "strangers who hold connections open hold up nobody", own.get("/").wrong(403)
+    for each in held:
+        each.end()
     status, said = nobody.link()
     yield "no link for a stranger", None if status == 2 and "does not know this login" in said else (status, said)
     for where in ("/", "/accounts", "/style.css"):
@@ -292,7 +322,7 @@ def link_of_others_trials(path: Path, anna: Login, bert: Login) -> Told:
     told = own.get("/", (HEADER, bert.name))
     yield "a header of who is no proxy", None if f"You are {anna.name}" in told.text else told
     cookie = next(iter(kept.values()))
-    own.cookies = {"desk-socket": cookie[:-4] + "AAAA"}
+    own.cookies = {next(iter(kept)): cookie[:-4] + "AAAA"}
     yield "a forged cookie", own.get("/").wrong(403)
     own.cookies = kept
     form = own.get("/names").fields("/names/look")
@@ -413,9 +443,7 @@ def end_trials(path: Path, office: Path, anna: Login, bert: Login, desk: SocketD
     (office / "office.ini").write_text(kept.replace(f"{bert.name} = Bert Kohl: all\n", ""))
     yield "who is named no more is out", other.get("/").wrong(403)
     (office / "office.ini").write_text(kept)
-    children = Path(f"/proc/{desk.process.pid}/task/{desk.process.pid}/children").read_text().split()
-    for number in children:
-        os.kill(int(number), signal.SIGKILL)
+    desk.kill_server()
     until, there = time.monotonic() + MOST_SECONDS, own.get("/")
     while there.status == 0 and time.monotonic() < until:
         time.sleep(0.2)
@@ -424,7 +452,59 @@ def end_trials(path: Path, office: Path, anna: Login, bert: Login, desk: SocketD
     yield "and gives another one", own.came_in().get("/").wrong(200)
     said = desk.said()
     for words in (
-        f"came in from the login {anna.name} as {anna.name}", f"{bert.name} is no login that office.ini names",
+        f"came in from the login {anna.name} as {anna.name}", "no login that office.ini names; nothing was read",
         "the link of another login", f"{anna.name} was given a link", f"{anna.name} ended their links",
     ):  # fmt: skip
         yield f"the log says: {words[:30]}", None if words in said else said[-1500:]
+
+
+# Several at once.
+
+# How many rows each of them hands in, and from which amount on: each has another one.
+ROWS, FIRST = 4, 1_000
+
+
+def many_trials(path: Path, office: Path, people: list[Login], desk: SocketDesk) -> Told:
+    """Several hand in at once, each row until it is told as handed in, and the server is killed meanwhile: nothing is
+    lost, nothing stands twice, and each row is of the login that handed it in."""
+    told: list[tuple[str, int]] = []
+    amounts = {place: range(FIRST * (place + 1), FIRST * (place + 1) + ROWS) for place in range(len(people))}
+    threads = [
+        threading.Thread(target=hand_in_all, args=(Visitor(login, path), amounts[place], told))
+        for place, login in enumerate(people)
+    ]
+    for thread in threads:
+        thread.start()
+    time.sleep(5)
+    desk.kill_server()
+    for thread in threads:
+        thread.join()
+    wanted = sorted((people[place].name, amount) for place, own in amounts.items() for amount in own)
+    yield "all was handed in", differs(sorted(told), wanted)
+    yield "each once, by its login", differs(sorted(handed_in(office)), wanted)
+
+
+def hand_in_all(who: Visitor, amounts: range, told: list[tuple[str, int]]) -> None:
+    """Hands rows in, each until it is there: who comes late looks once more, and who is out comes in again."""
+    for amount in amounts:
+        until = time.monotonic() + 4 * MOST_SECONDS
+        while time.monotonic() < until:
+            with contextlib.suppress(AssertionError):
+                if not who.cookies or who.get("/").status != 200:
+                    who.came_in()
+                looked = who.send("/hand-in", "/hand-in/look", [("many.csv", ROW.format(amount).encode())])
+                if "was handed in" in looked.text or "handed in: " in who.yes(looked, "/hand-in/take").text:
+                    told.append((who.login.name, amount))
+                    break
+            time.sleep(0.3)
+
+
+def handed_in(office: Path) -> Iterator[tuple[str, int]]:
+    """The rows of the trial above that are there, each with its login."""
+    with contextlib.closing(sqlite3.connect(f"file:{office}/registry.sqlite?mode=ro", uri=True)) as db:
+        there = "SELECT login, packed FROM events JOIN texts ON text = texts.sum WHERE what = 'handed' AND of IS NULL"
+        for login, packed in db.execute(there):
+            for row in zlib.decompress(packed).decode().splitlines():
+                amount = row.rpartition(",")[2]
+                if row.startswith("do,") and amount.isdigit() and int(amount) >= FIRST and ",100210,300118," in row:
+                    yield login.rpartition(":")[2], int(amount)

@@ -20,6 +20,7 @@ exit status: 0 if Ctrl-C ended it.
 import argparse
 import contextlib
 import gc
+import hashlib
 import importlib.util
 import os
 import re
@@ -112,11 +113,14 @@ def serve_at(path: Path, socket: str, header: str, is_look: bool) -> None:
     gc.enable()
     progress.is_shown = False
     with private_folder() as own:
-        served = Served(path, "socket", own, None, None, is_look, door.Door(path, header))
+        # (cookies know no sockets: another desk has another one)
+        named = f"socket:{hashlib.sha256(os.fsencode(os.path.abspath(socket))).hexdigest()[:8]}"
+        at_door = door.Door(path, header)
+        served = Served(path, named, own, None, None, is_look, at_door)
         log.begin()
         print(f"the desk of {path} at {socket}; Ctrl-C ends it", flush=True)
         with contextlib.suppress(SystemExit, KeyboardInterrupt):
-            door.serve(app.make(served), socket, THREADS, served.jobs.end)
+            door.serve(app.make(served), at_door, socket, THREADS, served.jobs.end)
 
 
 def serve(path: Path, port: int, who: str | None, proxy: Proxy | None, is_look: bool) -> None:

@@ -21,9 +21,9 @@ from pathlib import Path
 from typing import Any
 
 from registry_tools.cli.link import LINKS
-from registry_tools.desk import heads
+from registry_tools.desk import heads, log
 from registry_tools.desk.heads import Head, Refusal
-from registry_tools.errors import WordsFault
+from registry_tools.errors import FileFault, WordsFault
 from registry_tools.layout import SETTINGS
 from registry_tools.office import people, settings
 from registry_tools.office.people import SPEAKS_FOR, People
@@ -67,7 +67,11 @@ class Link:
 
 def peer_of(environ: Mapping[str, Any]) -> Peer:
     """Who is at the other end of the connection of a request."""
-    own: socket.socket = environ["gunicorn.socket"]
+    return peer_at(environ["gunicorn.socket"])
+
+
+def peer_at(own: socket.socket) -> Peer:
+    """Who is at the other end of a connection."""
     asked = own.getsockopt(socket.SOL_SOCKET, socket.SO_PEERCRED, struct.calcsize("iII"))
     _, user, _ = struct.unpack("iII", asked)
     return Peer(people.login_of(user), str(own.getsockname()).endswith(LINKS))
@@ -119,6 +123,15 @@ class Door:
         """The people whom office.ini names. Raises FileFault."""
         return settings.read(self.folder / SETTINGS).people
 
+    def why_not(self, own: socket.socket) -> str:
+        """Why nothing is read of a connection; nothing, if it is of a login that office.ini names."""
+        peer = peer_at(own)
+        with contextlib.suppress(FileFault, OSError):
+            if peer.login in self.people().named:
+                return ""
+        log.refused(f"the login {peer.login}", "all", "", 403, f"no login that {SETTINGS} names; nothing was read")
+        return NOT_NAMED
+
     def caller(self, peer: Peer, head: Head) -> Caller | Refusal:
         """Who asks, or why nobody does who may."""
         known = self.people()
@@ -166,9 +179,13 @@ def must_be_left(path: str) -> None:
             raise WordsFault(f"--socket {path}: another desk answers there")
 
 
-def serve(app: Any, path: str, threads: int, end: Callable[[], None]) -> None:
+def serve(app: Any, own: Door, path: str, threads: int, end: Callable[[], None]) -> None:
     """Answers requests at a socket until somebody ends it. `end` is done by the process that answers, at its end."""
     from gunicorn.app.base import BaseApplication
+
+    from registry_tools.desk import worker
+
+    app.config[worker.ASKS] = own.why_not
 
     class Application(BaseApplication):
         """The desk, as gunicorn wants it."""
