@@ -25,7 +25,7 @@ REVISION = "1"
 MAINTAINER = "Duqisway maintainers <maintainers@users.noreply.duqisway.example>"
 PYTHON = "usr/lib/python3/dist-packages"
 # What the commands find useful beside them.
-ASKS = "Recommends: python3-registry\nSuggests: python3-flask, python3-waitress, gunicorn\n"
+ASKS = "Recommends: python3-registry\nSuggests: python3-flask, python3-waitress, python3-gunicorn\n"
 # The long lines of a description.
 ENGINE = """\
  It settles one day of an allowance registry: who gets which allowances, what

@@ -43,7 +43,8 @@ SLOW = {
 # The seconds that each takes alone, about, of a proved and of an unproved program, until a check has measured it here.
 SECONDS: Mapping[str, float] = {
     "run-first-answers": 200, "run-second-answer": 200, "run-cases": 60, "run-streams": 120, "run-decision-table": 60,
-    "run-desk": 150, "run-door": 80, "run-office": 200, "run-forms": 120, "run-day": 150, "run-intake": 60, "run-misuse": 60,
+    "run-desk": 150, "run-door": 80, "run-office": 200, "run-forms": 120, "run-day": 150, "run-intake": 60,
+    "run-misuse": 60,
     "run-release": 90, "run-large-cases": 60, "run-tools": 70, "run-pages": 60, "run-audit": 60, "run-prefixes": 30,
     "run-documents": 30, "run-words": 30, "run-trust": 40, "run-handover": 20, "run-explain": 20, "run-attacks": 60,
     "run-kills": 60, "run-bytes": 30, "run-upgrade": 20,

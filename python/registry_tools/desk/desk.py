@@ -13,7 +13,8 @@ right proxy there, since it speaks for them. From their own machine they open a 
 that ./day link prints on this one. A login with the right proxy says by a header, X-Remote-User or the one of
 --proxy-user, for whom it comes. Who may open PATH at all, the folder says in which it lies.
 
-It needs Flask and waitress, and gunicorn for a socket: apt-get install python3-flask python3-waitress gunicorn.
+It needs Flask and waitress, and gunicorn for a socket: apt-get install python3-flask python3-waitress
+python3-gunicorn.
 
 exit status: 0 if Ctrl-C ended it.
 """
@@ -92,7 +93,7 @@ def at_socket(said: argparse.Namespace, path: Path) -> int:
         raise WordsFault("--socket stands in place of --port, --who and --proxy-secret: the system says who comes")
     missing = missing_of(AT_SOCKETS)
     if missing:
-        return by_system(missing, AT_SOCKETS, f"{PACKAGES} gunicorn")
+        return by_system(missing, AT_SOCKETS, f"{PACKAGES} python3-gunicorn")
     from registry_tools.desk import door
 
     own, known = people.system_login(), door.Door(path).people()
