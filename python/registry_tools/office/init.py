@@ -1,5 +1,6 @@
 """Makes a folder that remembers its days, with the first day text, or puts another first text into one without a
 settled day."""
+import contextlib
 import os
 from dataclasses import dataclass
 from pathlib import Path
@@ -49,9 +50,22 @@ def init(asked: Init, by: By) -> DayText:
         with file.making(made.beside / file.NAME) as store:
             office = Office(asked.path, settings, store, by.login, by.who)
             put_first(office, HandedIn(store), first, asked.first)
+        for path in (made.beside / SETTINGS, made.beside):
+            sync(path)
         if made.is_there:
             os.chmod(asked.path, file.FOLDER_MODE)
+    with contextlib.suppress(OSError):
+        sync(asked.path.parent)
     return first
+
+
+def sync(path: Path) -> None:
+    """Has a file, or the names in a folder, kept, also if the machine stops. Raises OSError."""
+    own = os.open(path, os.O_RDONLY)
+    try:
+        os.fsync(own)
+    finally:
+        os.close(own)
 
 
 def put_first(office: Office, there: HandedIn, first: DayText, path: str) -> None:
