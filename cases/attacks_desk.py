@@ -320,17 +320,22 @@ def page_attempts(work: Path) -> Attempts:
     ):  # fmt: skip
         yield f"the file {path} of the folder /days", differs(desk_voice.path(path), wanted)
     office = office_of(work)
-    lines: list[tuple[str, int, str, list[object]]] = [
-        ("done", 0, "done", ["status"]), ("a file that is not there", 3, "nothing", ["hand-in", work / "none.csv"]),
-        ("words that do not fit", 2, "nothing", ["undo", "2025-09-21", "--why", "x"]),
-        ("late", 2, "late", ["release", "2025-09-22", "--why", "x", "--yes", "--seen", "0" * 64]),
-        ("words as if it was late", 2, "nothing", ["undo", f"{CAME_LATE}", "--why", "x"]),
+    table = work / "table.csv"
+    table.write_text("proposed,proposer,act,from,kind,amount\n2025-09-23,1,surrender,x,general,y\n")
+    lines: list[tuple[str, int, str, list[str], list[object]]] = [
+        ("done", 0, "done", [], ["status"]),
+        ("a file that is not there", 3, "nothing", ["file"], ["hand-in", work / "none.csv"]),
+        ("cells that are wrong", 3, "nothing", ["table", "table"], ["hand-in", table]),
+        ("words that do not fit", 2, "nothing", ["words"], ["undo", "2025-09-21", "--why", "x"]),
+        ("late", 2, "late", ["late"], ["release", "2025-09-22", "--why", "x", "--yes", "--seen", "0" * 64]),
+        ("words as if it was late", 2, "nothing", ["words"], ["undo", f"{CAME_LATE}", "--why", "x"]),
     ]  # fmt: skip
-    for what, status, kind, line in lines:
+    for what, status, kind, codes, line in lines:
         file = work / "outcome.json"
         plain, said = Said(*line, "--office", office), Said(FOR_DESK, office, file, *line, "--office", office)
         own = outcomes.read(file)
-        is_so = own and (own.kind.value, own.status) == (kind, status) and len(own.faults) == (1 if status else 0)
+        told = [fault.code for fault in own.faults] if own else None
+        is_so = own and (own.kind.value, own.status, told) == (kind, status, codes)
         yield f"what came of a command: {what}", None if is_so else (own, said)
         yield f"its status is the same: {what}", differs(said.status, plain.status)
     yield from typed_attempts(office, work)

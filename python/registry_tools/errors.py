@@ -1,5 +1,5 @@
 """What goes wrong: each ends a command with a line on standard error and an exit status."""
-from collections.abc import Collection, Iterable
+from collections.abc import Collection, Iterable, Sequence
 from pathlib import Path
 from typing import Any
 
@@ -16,14 +16,20 @@ class WordsFault(Exception):
     """The words of the command do not fit together, or do not fit the files."""
 
     status = WORDS
+    # By this word programs know what kind of fault it is.
+    code = "words"
 
 
 class LateFault(WordsFault):
     """Somebody else changed the folder first: what was asked for may still be wanted."""
 
+    code = "late"
+
 
 class RightsFault(WordsFault):
     """Who asks may not do it: why, and what is said behind it of this command."""
+
+    code = "rights"
 
     def __init__(self, why: str, end: str = "") -> None:
         super().__init__(f"{why}{end}")
@@ -35,6 +41,7 @@ class FileFault(Exception):
     If the whole file is meant, `found` says all."""
 
     status = FILE
+    code = "file"
     # Of something that was handed in, its place; and the way out, if there is one.
     place: int | None = None
     way = ""
@@ -45,6 +52,10 @@ class FileFault(Exception):
 
     def __str__(self) -> str:
         return f"{self.without_way()}; {self.way}" if self.way else self.without_way()
+
+    def parts(self) -> "Sequence[FileFault]":
+        """The faults that it tells: itself, or several that were found together."""
+        return (self,)
 
     def without_way(self) -> str:
         """What is wrong, without the way out: who shows it otherwise has another one."""
@@ -59,9 +70,13 @@ class FileFault(Exception):
 class UnwrittenFault(FileFault):
     """A file that a command writes cannot be written: nothing is wrong with what it reads."""
 
+    code = "unwritten"
+
 
 class RowFault(FileFault):
     """A row has a fault: its number and the cause, as the program says it."""
+
+    code = "row"
 
     def __init__(self, number: int, cause: str, *parts: Any) -> None:
         super().__init__(*parts)

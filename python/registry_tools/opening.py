@@ -24,6 +24,8 @@ guarded: dict[str, None] = {}
 class LinkFault(FileFault):
     """Something in a folder of days is a link, or no plain file."""
 
+    code = "link"
+
     def __init__(self, path: str | Path, found: str = "a link") -> None:
         super().__init__(path, 0, "", found, "a file or folder of its own: look who put it there, and take it away")
 

@@ -27,10 +27,10 @@ class Kind(enum.Enum):
 
 @dataclass(frozen=True)
 class Fault:
-    """What is wrong: the exit status that it gives, the file, the line (0: the whole file), the field, what was found
-    and what is expected there, and the way out. A fault of words has no file."""
+    """What is wrong: of which kind it is, the file, the line (0: the whole file), the field, what was found and what is
+    expected there, and the way out. A fault of words has no file."""
 
-    code: int
+    code: str
     file: str
     line: int
     field: str
@@ -74,11 +74,12 @@ def keep(fault: WordsFault | FileFault) -> None:
     """Keeps what ended the command."""
     telling.is_late = isinstance(fault, LateFault)
     if isinstance(fault, FileFault):
-        words = str(fault.found), str(fault.expected)
-        own = Fault(fault.status, str(fault.path), fault.line, fault.field, *words, fault.way)
+        telling.faults += [
+            Fault(fault.code, str(own.path), own.line, own.field, str(own.found), str(own.expected), own.way)
+            for own in fault.parts()
+        ]
     else:
-        own = Fault(fault.status, "", 0, "", str(fault), "", "")
-    telling.faults.append(own)
+        telling.faults.append(Fault(fault.code, "", 0, "", str(fault), "", ""))
 
 
 def asked_for() -> None:

@@ -109,6 +109,7 @@ class HadFault(FileFault):
     """A row or a file that the folder has had before. By `of`, the file as it was given, and `at`, its line, it may
     come once more."""
 
+    code = "had"
     of, at = Given(""), 0
 
 

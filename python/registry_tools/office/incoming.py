@@ -79,12 +79,18 @@ class Incoming:
 class TableFault(FileFault):
     """All that is wrong with the cells of a table, and what did not come of it."""
 
+    code = "table"
+
     def __init__(self, path: str, wrong: list[FileFault], end: str = "nothing was handed in") -> None:
         super().__init__(path, 0, "", "", "")
         self.wrong, self.end = wrong, end
 
     def __str__(self) -> str:
         return "\n".join(importing.told(self.wrong, self.end))
+
+    def parts(self) -> Sequence[FileFault]:
+        """What is wrong with each of these cells."""
+        return self.wrong[: importing.MOST_TOLD]
 
 
 def read(own: Given, forms: Forms = Forms()) -> Incoming:
