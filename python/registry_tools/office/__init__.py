@@ -1,1 +1,2 @@
-"""The folder that remembers: its files, its journal, what was handed in, and how a change of it is made in one step."""
+"""A folder of days: what it is, and each command as a function that is given and answers data (close.close, undo.undo ..).
+They print nothing, and raise WordsFault, FileFault or RightsFault if something is wrong; then nothing is changed."""
