@@ -73,13 +73,15 @@ def made_of(script: str) -> dict[tuple[str, str], str]:
 
 
 def statements_in(db: sqlite3.Connection) -> dict[tuple[str, str], str]:
-    """What made the tables of a database and all beside them, and of which table each is, by kind and name."""
+    """What made the tables of a database and all beside them, and of which table each is, by kind and name. Comments
+    and blanks are left out: another version of the tools may have others."""
     before, db.text_factory = db.text_factory, told_text
     try:
         made = db.execute("SELECT type, name, tbl_name, coalesce(sql, '') FROM sqlite_master").fetchall()
     finally:
         db.text_factory = before
-    return {(str(kind), str(name)): f"{table}: {statement}" for kind, name, table, statement in made}
+    plain = ((kind, name, table, " ".join(COMMENT.sub("", str(own)).split())) for kind, name, table, own in made)
+    return {(str(kind), str(name)): f"{table}: {statement}" for kind, name, table, statement in plain}
 
 
 def told_text(text: bytes) -> str:
