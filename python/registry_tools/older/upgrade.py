@@ -8,7 +8,7 @@ from collections.abc import Iterator
 from dataclasses import dataclass, field, replace
 from pathlib import Path
 
-from registry_tools import opening, steps
+from registry_tools import opening
 from registry_tools.errors import FileFault
 from registry_tools.office import approvals, handed as todays
 from registry_tools.texts.labels import that_count
@@ -20,10 +20,10 @@ from registry_tools.older.files import bytes_in
 from registry_tools.older import folder as places, next_day
 from registry_tools.older.folder import LABELS, TABLES, Folder
 from registry_tools.older.handed import FIRST, KINDS, HandedIn, Part
-from registry_tools.output import name_beside, remove_left
+from registry_tools.output import name_beside, remove_left, writing
 from registry_tools.progress import progress
 from registry_tools.questions.seams import Filed, compare_texts, look_at_day, past_day_of
-from registry_tools.store import daybook, events, file
+from registry_tools.store import copies, daybook, events, file
 from registry_tools.store.events import APPROVED, ASKED, HANDED, LABELLED, NO_DATE, SOURCE, TAKEN, UPGRADED, Event
 from registry_tools.store.file import Store
 from registry_tools.texts.rows import KeptText, rows_of_text, sum_of, text_of_rows
@@ -63,8 +63,8 @@ def upgrade(path: Path, login: str, who: str) -> Upgraded:
                 making.make()
                 if making.found.faults:
                     raise Faulty
-            steps.hold()
-            os.replace(beside, place)
+            with writing(place):
+                copies.put_in_place(beside, place)
         except Faulty:
             return Upgraded(faults=[*map(str, making.found.faults), making.found.summary()])
         finally:

@@ -38,13 +38,23 @@ def backup(store: Store, path: str) -> Copy:
             with contextlib.closing(sqlite3.connect(beside)) as target:
                 store.db.backup(target)
             made = copy_at(beside, path)
-            steps.hold()
-            os.replace(beside, real)
+            put_in_place(beside, real)
     finally:
         for suffix in ("", "-journal"):
             with contextlib.suppress(OSError):
                 os.unlink(f"{beside}{suffix}")
     return made
+
+
+def put_in_place(beside: Path, path: Path) -> None:
+    """Gives a whole file its name, in place of one that had it, also if the machine stops then. Raises OSError."""
+    steps.hold()
+    os.replace(beside, path)
+    folder = os.open(path.parent, opening.FOLDER)
+    try:
+        os.fsync(folder)
+    finally:
+        os.close(folder)
 
 
 def copy_at(place: Path, path: str) -> Copy:
