@@ -9,7 +9,7 @@ from dataclasses import dataclass, field, replace
 from pathlib import Path
 
 from registry_tools import opening
-from registry_tools.errors import FileFault
+from registry_tools.errors import FileFault, UnwrittenFault
 from registry_tools.office import approvals, handed as todays
 from registry_tools.texts.labels import that_count
 from registry_tools.office.office import Office
@@ -65,6 +65,8 @@ def upgrade(path: Path, login: str, who: str) -> Upgraded:
                     raise Faulty
             with writing(place):
                 copies.put_in_place(beside, place)
+        except UnwrittenFault as fault:
+            raise UnwrittenFault(place, 0, "", fault.found, "") from None
         except Faulty:
             return Upgraded(faults=[*map(str, making.found.faults), making.found.summary()])
         finally:
