@@ -12,7 +12,7 @@ from registry_tools.office.handed import FIRST, HandedIn
 from registry_tools.layout import SETTINGS
 from registry_tools.office.office import By, Office
 from registry_tools.office.settings import Settings
-from registry_tools.output import NewFolder
+from registry_tools.output import NewFolder, writing
 from registry_tools.store import file
 from registry_tools.texts.day_text import DayText, day_of
 from registry_tools.texts.rows import bytes_of, rows_of_text, text_of_rows
@@ -50,10 +50,11 @@ def init(asked: Init, by: By) -> DayText:
         with file.making(made.beside / file.NAME) as store:
             office = Office(asked.path, settings, store, by.login, by.who)
             put_first(office, HandedIn(store), first, asked.first)
-        for path in (made.beside / SETTINGS, made.beside):
-            sync(path)
-        if made.is_there:
-            os.chmod(asked.path, file.FOLDER_MODE)
+        with writing(asked.path):
+            for path in (made.beside / SETTINGS, made.beside):
+                sync(path)
+            if made.is_there:
+                os.chmod(asked.path, file.FOLDER_MODE)
     with contextlib.suppress(OSError):
         sync(asked.path.parent)
     return first
