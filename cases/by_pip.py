@@ -2,9 +2,11 @@
 from __future__ import annotations
 
 import os
+import re
 import shutil
 import subprocess
 import sys
+import zipfile
 from pathlib import Path
 
 from harness import TOP, LeftOut, Word, answer_of, differs
@@ -40,6 +42,38 @@ def new_room(place: Path, *wanted: Word) -> Path:
     made = answer_of([place / "bin/pip", "install", *wanted], env=offline)
     assert made[2] == 0, made
     return place
+
+
+def editable_fault(room: Path, sources: Path) -> object:
+    """Whether `pip install -e` takes the package where it lies: a change of it is seen at once."""
+    place = new_room(room, "-e", sources)
+    tables = sources / "python/registry_tools/tables.py"
+    before = tables.read_text()
+    tables.write_text(before + "\nVERSION = '9.9'\n")
+    said = answer_of([place / "bin/registry-day", "--version"], cwd=room, env={})
+    tables.write_text(before)
+    return differs(said, (b"registry-day of registry 9.9\n", b"", 0))
+
+
+def told_fault(folder: Path) -> object:
+    """What is wrong with what wheels say of themselves: a description, extras, and on which machines they run."""
+    wheels = sorted(folder.glob("python/*.whl"))
+    said = "".join(zipfile.Path(each, own).read_text() for each in wheels for own in named_in(each, "METADATA"))
+    wanted = ("Provides-Extra: desk", 'Requires-Dist: flask; extra == "desk"', "Provides-Extra: sheets",
+              "Description-Content-Type: text/markdown", "# registry-tools", "# The engine in Python")  # fmt: skip
+    lacking = [words for words in wanted if words not in said]
+    if lacking or not re.search(r"-py3-none-(manylinux_2_[0-9]+|linux)_\w+\.whl", wheels[0].name):
+        return f"{lacking} {wheels[0].name}"
+    if shutil.which("twine"):
+        checked = answer_of(["twine", "check", "--strict", *wheels])
+        return checked if checked[2] else None
+    return None
+
+
+def named_in(wheel: Path, name: str) -> list[str]:
+    """The files of a wheel with this name."""
+    with zipfile.ZipFile(wheel) as archive:
+        return [each for each in archive.namelist() if each.endswith(f"/{name}")]
 
 
 def room_of_pipx(place: Path, wanted: Word) -> Path:

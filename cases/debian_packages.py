@@ -4,6 +4,7 @@ from __future__ import annotations
 import os
 import re
 import shutil
+import sys
 from collections.abc import Sequence
 from pathlib import Path
 
@@ -11,6 +12,10 @@ from by_pip import TOLD
 from harness import LeftOut, Word, answer_of, differs
 from lived_weeks import WEEK, Somebody, week_fault
 from standins import VERSION
+
+
+# The packages that have modules of Python.
+CLEANED = {"registry", "python3-registry"}
 
 
 def debian_fault(made: Path, room: Path) -> object:
@@ -26,10 +31,27 @@ def debian_fault(made: Path, room: Path) -> object:
     for path in packages:
         control = answer_of(["dpkg-deb", "--ctrl-tarfile", path])[0]
         scripts = re.findall(rb"\./(preinst|postinst|prerm|postrm|config)\0", control)
-        if scripts or answer_of(["dpkg-deb", "-x", path, root])[2]:
+        wanted = [b"prerm"] if path.name.partition("_")[0] in CLEANED else []
+        if scripts != wanted or answer_of(["dpkg-deb", "-x", path, root])[2]:
             return f"{path.name}: {scripts}"
     wrong = week_fault(root / "usr/bin/registry-day", Somebody(room / "somebody"), "program")
-    return wrong or calls_fault(root) or lintian_fault(packages)
+    return wrong or calls_fault(root) or cleaning_fault(packages, root, room) or lintian_fault(packages)
+
+
+def cleaning_fault(packages: Sequence[Path], root: Path, room: Path) -> object:
+    """What Python has made of the modules, and the scripts of the packages leave behind, where there is no py3clean."""
+    answer_of([sys.executable, "-m", "compileall", "-q", root])
+    if not [*root.rglob("*.pyc")]:
+        return "nothing was compiled"
+    for path in packages:
+        control = room / f"control-{path.name}"
+        answer_of(["dpkg-deb", "-e", path, control])
+        if (control / "prerm").exists():
+            script = (control / "prerm").read_text().replace("py3clean", "no-py3clean")
+            said = answer_of(["sh", "-c", script.replace(" /usr/", f" {root}/usr/")])
+            if said[2]:
+                return f"{path.name}: {said}"
+    return [str(path) for path in root.rglob("*.pyc")] or None
 
 
 def calls_fault(root: Path) -> object:
@@ -54,6 +76,6 @@ def lintian_fault(packages: Sequence[Path]) -> object:
     if not shutil.which("lintian"):
         return None
     root = ["--allow-root"] if os.getuid() == 0 else []
-    said = answer_of(["lintian", *root, "--fail-on", "error", *packages])
-    # (a stand-in for the program is a script, and that for the library was built without the flags of Debian)
+    said = answer_of(["lintian", *root, "--fail-on", "warning", *packages])
+    # (what it says of less than a warning is of the stand-ins: a script, and a library built without Debian's flags)
     return f"lintian: {said[0].decode()}" if said[2] else None

@@ -2,16 +2,19 @@
 cases/run-release."""
 from __future__ import annotations
 
+import hashlib
+import json
 import os
 import re
 import shutil
 import tarfile
 from collections.abc import Iterator
+from datetime import datetime, timezone
 from functools import partial
 from pathlib import Path
 
 import changed_archives
-from by_pip import commands_fault, folder_fault, new_room, room_of_pipx, wheels_fault
+from by_pip import commands_fault, editable_fault, folder_fault, new_room, room_of_pipx, told_fault, wheels_fault
 from debian_packages import debian_fault
 from harness import TOP, LeftOut, Trial, answer_of, differs
 from lived_weeks import Somebody, week_fault
@@ -24,8 +27,12 @@ PARTS = [
     "share/bash-completion/completions/registry", "share/bash-completion/completions/registry-day",
     "share/zsh/site-functions/_registry", "share/zsh/site-functions/_registry-day", "share/doc/registry/RULES.md",
     "src/rust/Cargo.toml", "src/java/registry_jni.c", "src/python/notebook.ipynb", "src/first-transfer.csv", "README",
-    "INSTALL", "CHANGELOG.md", "MANIFEST", "SHA256SUMS", "install",
+    "INSTALL", "CHANGELOG.md", "MANIFEST", "SHA256SUMS", "install", "registry.spdx.json",
+    "share/man/man1/registry-rules.1", "share/man/man1/registry-day-close.1", "share/doc/registry/THEOREMS.md",
 ]  # fmt: skip
+KIT = "rattle-kit-of-this-case"
+# The files that are made behind the bill of materials, and itself.
+BESIDE_THE_BILL = {"./registry.spdx.json", "./SHA256SUMS"}
 MANIFEST = (
     f"registry {VERSION} for ", "source: commit 0123456789ab", "proved and built with rattle-kit-of-this-case",
     "crates: ", "Only tested: ",
@@ -59,8 +66,16 @@ def manual_fault(folder: Path) -> object:
     for path in sorted(folder.glob("share/man/man*/*")):
         text = path.read_text()
         name = path.stem.replace("-", "\\-")
-        if f".SH NAME\n{name} \\- " not in text or ".SH SYNOPSIS\n" not in text or "./day" in text.split(".SH ")[2]:
+        if f".SH NAME\n{name} \\- " not in text or ".SH SYNOPSIS\n" not in text or "./day" in text:
             return f"{path.name}: {text[:300]}"
+        if f' "{datetime.fromtimestamp(path.stat().st_mtime, timezone.utc).date()}" ' not in text.split("\n")[0]:
+            return f"{path.name}: {text[:100]} has not the date of the archive"
+        if path.parent.name == "man1" and path.stem != "registry-day" and ".SH EXAMPLES\n" not in text:
+            return f"{path.name} has no examples"
+        if shutil.which("mandoc"):
+            looked = answer_of(["mandoc", "-T", "lint", "-W", "warning", path])
+            if looked[0] or looked[2]:
+                return f"{path.name}: mandoc says {looked[0].decode()[:300]}"
         if shutil.which("groff"):
             said = answer_of(["groff", "-man", "-Tutf8", "-K", "utf8", "-ww", "-z", path])[1]
             # (a long word in a narrow column)
@@ -68,6 +83,43 @@ def manual_fault(folder: Path) -> object:
             if wrong:
                 return f"{path.name}: {wrong[:3]}"
     return None
+
+
+def documents_fault(folder: Path) -> object:
+    """What is wrong with the documents: a link that leads nowhere, or the name of a command as a checkout has it."""
+    for path in sorted([*folder.glob("share/doc/registry/**/*.md"), folder / "CHANGELOG.md"]):
+        text = path.read_text()
+        if "./day" in text:
+            return f"{path.name} speaks of ./day"
+        for target in re.findall(r"\]\(([^)\s]+)\)", text):
+            name, _, anchor = target.partition("#")
+            there = path.parent / name if name else path
+            if not re.match("[a-z]+:", target) and not (there.exists() and has_heading(there, anchor)):
+                return f"{path.name}: {target} leads nowhere"
+    return None
+
+
+def has_heading(path: Path, anchor: str) -> bool:
+    """Whether a document has the heading that a link names, if it names one."""
+    heads = re.findall("(?m)^#+ (.*)$", path.read_text()) if anchor else []
+    return not anchor or anchor in [re.sub(r"[^\w\- ]", "", head.lower()).replace(" ", "-") for head in heads]
+
+
+def bill_fault(folder: Path) -> object:
+    """What is wrong with the bill of materials: it has each file but itself and the sums, and each crate of the kit."""
+    told = json.loads((folder / "registry.spdx.json").read_text())
+    wanted = {
+        f"./{path.relative_to(folder)}": hashlib.sha256(path.read_bytes()).hexdigest()
+        for path in folder.rglob("*") if path.is_file() and not path.is_symlink()
+    }  # fmt: skip
+    found = {each["fileName"]: each["checksums"][1]["checksumValue"] for each in told["files"]}
+    fault = differs({**wanted, **found}, wanted) or differs(wanted.keys() - found.keys(), BESIDE_THE_BILL)
+    names = {each["name"]: each["versionInfo"] for each in told["packages"]}
+    kit = {"csv": KIT, "clap": KIT, "rattle-kit": KIT, "registry": VERSION}
+    fault = fault or differs({name: names.get(name) for name in kit}, kit)
+    ids = [each["SPDXID"] for each in (*told["packages"], *told["files"])]
+    named = {each[key] for each in told["relationships"] for key in ("spdxElementId", "relatedSpdxElement")}
+    return fault or differs((len({*ids}), named - {*ids}), (len(ids), {"SPDXRef-DOCUMENT"}))
 
 
 def completion_fault(folder: Path) -> object:
@@ -102,7 +154,7 @@ def install_fault(folder: Path, room: Path) -> object:
     if wrong:
         return wrong
     said = answer_of([folder / "install", "--remove", "--prefix", prefix], env={})
-    left = [str(path.relative_to(prefix)) for path in prefix.rglob("*") if not path.is_dir()]
+    left = [str(path.relative_to(prefix)) for path in prefix.rglob("*")]
     return differs((said[2], left), (0, ["other"]))
 
 
@@ -158,6 +210,8 @@ def own_trials(made: Path, sources: Path, room: Path, is_built: bool) -> Iterato
 
     yield "what an archive has", lambda: content_fault(folder())
     yield "manual pages", lambda: manual_fault(folder())
+    yield "documents", lambda: documents_fault(folder())
+    yield "a bill of materials", lambda: bill_fault(folder())
     yield "completion", lambda: completion_fault(folder())
     day = "bin/registry-day"
     yield "a week in an archive", lambda: week_fault(folder() / day, Somebody(room / "unpacked-week"), "program")
@@ -165,6 +219,8 @@ def own_trials(made: Path, sources: Path, room: Path, is_built: bool) -> Iterato
     yield "installed below a folder", lambda: install_fault(folder(), room / "installed")
     yield "the commands by pip", lambda: commands_fault(new_room(room / "tools", *folder().glob("python/registry_t*")))
     yield "the top of the repository by pip", lambda: commands_fault(new_room(room / "top", sources), "close")
+    yield "the top of the repository, edited where it is", lambda: editable_fault(room / "edited", sources)
+    yield "what wheels say of themselves", lambda: told_fault(folder())
     by_pipx = {"archive": lambda: [*folder().glob("python/registry_t*")][0], "top of the repository": lambda: sources}
     for name, wanted in by_pipx.items():
         yield f"the commands of the {name} by pipx", lambda each=(name, wanted): commands_fault(

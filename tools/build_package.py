@@ -4,18 +4,22 @@ It needs the standard library alone: so an installation asks no network for anot
 """
 import base64
 import configparser
+import gzip
 import hashlib
 import io
+import os
+import re
 import sys
 import tarfile
+import time
 import zipfile
 from pathlib import Path
 
 TOP = Path(__file__).resolve().parent.parent
 # What a source package has, beside the package itself.
-SOURCES = ("pyproject.toml", "tools/build_package.py")
-# Equal sources give equal bytes: no file has a time of its own.
-TIME = (1980, 1, 1, 0, 0, 0)
+SOURCES = ("pyproject.toml", "packaging/TOOLS.md", "tools/build_package.py")
+# A zip has no time before this one.
+EARLIEST = (1980, 1, 1, 0, 0, 0)
 
 
 def project() -> configparser.ConfigParser:
@@ -37,6 +41,19 @@ def version() -> str:
     return VERSION
 
 
+def moment() -> int:
+    """The time of each file, so that equal sources give equal bytes: SOURCE_DATE_EPOCH, which a release sets to that of
+    its commit."""
+    told = os.environ.get("SOURCE_DATE_EPOCH", "")
+    return int(told) if told.isdigit() else 0
+
+
+def time_of_files() -> tuple[int, int, int, int, int, int]:
+    """The same as a zip has it."""
+    own = time.gmtime(moment())
+    return max((own.tm_year, own.tm_mon, own.tm_mday, own.tm_hour, own.tm_min, own.tm_sec), EARLIEST)
+
+
 def files() -> list[Path]:
     """The files of the package, also those that are no Python."""
     package = TOP / "python" / "registry_tools"
@@ -44,15 +61,20 @@ def files() -> list[Path]:
 
 
 def metadata() -> str:
-    return (
+    head = (
         f"Metadata-Version: 2.1\nName: {named('name')}\nVersion: {version()}\nSummary: {named('description')}\n"
         f"Requires-Python: {named('requires-python')}\n"
     )
+    for extra, needs in project()["project.optional-dependencies"].items():
+        head += f"Provides-Extra: {extra}\n"
+        head += "".join(f'Requires-Dist: {need}; extra == "{extra}"\n' for need in re.findall('"([^"]+)"', needs))
+    about = (TOP / named("readme")).read_text(encoding="utf-8")
+    return f"{head}Description-Content-Type: text/markdown\n\n{about}"
 
 
-def parts() -> dict[str, bytes]:
-    """What an installation has: each file by its name, the list of them at the end."""
-    made = {str(path.relative_to(TOP / "python")): path.read_bytes() for path in files()}
+def parts(own: dict[str, bytes]) -> dict[str, bytes]:
+    """What an installation has beside its own files: each by its name, the list of all at the end."""
+    made = dict(own)
     folder = f"{named('name').replace('-', '_')}-{version()}.dist-info"
     scripts = "".join(f"{name} = {call.strip(chr(34))}\n" for name, call in project()["project.scripts"].items())
     made |= {
@@ -71,20 +93,32 @@ def sum_of(content: bytes) -> str:
 
 def build_wheel(wheel_directory: str, config_settings: object = None, metadata_directory: object = None) -> str:
     """Makes the file that is installed, and answers its name."""
+    return wheel_of({str(path.relative_to(TOP / "python")): path.read_bytes() for path in files()}, wheel_directory)
+
+
+def build_editable(wheel_directory: str, config_settings: object = None, metadata_directory: object = None) -> str:
+    """Makes the file that `pip install -e .` installs: it names the folder of the package, which stays where it is."""
+    return wheel_of({"registry_tools.pth": f"{TOP / 'python'}\n".encode()}, wheel_directory)
+
+
+def wheel_of(own: dict[str, bytes], folder: str) -> str:
     name = f"{named('name').replace('-', '_')}-{version()}-py3-none-any.whl"
-    with zipfile.ZipFile(Path(wheel_directory) / name, "w", zipfile.ZIP_DEFLATED) as archive:
-        for part, content in parts().items():
-            archive.writestr(zipfile.ZipInfo(part, TIME), content, zipfile.ZIP_DEFLATED)
+    with zipfile.ZipFile(Path(folder) / name, "w", zipfile.ZIP_DEFLATED) as archive:
+        for part, content in parts(own).items():
+            archive.writestr(zipfile.ZipInfo(part, time_of_files()), content, zipfile.ZIP_DEFLATED)
     return name
 
 
 def build_sdist(sdist_directory: str, config_settings: object = None) -> str:
     """Makes an archive of the sources of the package, and answers its name."""
     folder = f"{named('name').replace('-', '_')}-{version()}"
-    with tarfile.open(Path(sdist_directory) / f"{folder}.tar.gz", "w:gz") as archive:
-        for path in [*(TOP / name for name in SOURCES), *files()]:
-            archive.add(path, f"{folder}/{path.relative_to(TOP)}")
-        about = tarfile.TarInfo(f"{folder}/PKG-INFO")
-        about.size = len(metadata().encode())
-        archive.addfile(about, io.BytesIO(metadata().encode()))
+    parts_of_it = {str(path.relative_to(TOP)): path.read_bytes() for path in (*map(TOP.joinpath, SOURCES), *files())}
+    parts_of_it["PKG-INFO"] = metadata().encode()
+    made = io.BytesIO()
+    with tarfile.open(fileobj=made, mode="w") as archive:
+        for name, content in sorted(parts_of_it.items()):
+            about = tarfile.TarInfo(f"{folder}/{name}")
+            about.size, about.mtime = len(content), moment()
+            archive.addfile(about, io.BytesIO(content))
+    (Path(sdist_directory) / f"{folder}.tar.gz").write_bytes(gzip.compress(made.getvalue(), mtime=moment()))
     return f"{folder}.tar.gz"

@@ -1,5 +1,6 @@
 """Makes packages for Debian of an unpacked archive of a version, by dpkg-deb: registry, libregistry1, libregistry-dev
-and python3-registry. None has a script that runs when it is installed.
+and python3-registry. None has a script that runs when it is installed; before they go, those with Python let what
+Python has made of it be taken away.
 
 usage: debian.py ARCHIVE FOLDER
 """
@@ -110,8 +111,9 @@ class Tree:
         getattr(self, f"fill_{self.own.name.replace('-', '_')}")()
         doc = f"usr/share/doc/{self.own.name}"
         self.zip("CHANGELOG.md", f"{doc}/changelog")
-        self.write(f"{doc}/changelog.Debian.gz", gzip.compress(changelog(self.full).encode(), mtime=0))
-        self.write(f"{doc}/copyright", COPYRIGHT)
+        told = (self.archive / "CHANGELOG.md").read_text(encoding="utf-8")
+        self.write(f"{doc}/changelog.Debian.gz", gzip.compress(changelog(told).encode(), mtime=0))
+        self.write(f"{doc}/copyright", COPYRIGHT.format(year=time.gmtime(moment()).tm_year))
 
     def fill_registry(self) -> None:
         for name in ("registry", "registry-day", "registry-rules"):
@@ -119,18 +121,20 @@ class Tree:
         for name in ("registry-day", "registry-rules"):
             path = self.folder / f"usr/bin/{name}"
             # (Debian's own Python, and no other one of the PATH)
-            path.write_text(path.read_text().replace("exec python3 ", "exec /usr/bin/python3 ", 1))
+            path.write_text(re.sub(r"^#!.*", "#!/usr/bin/python3 -IB", path.read_text(), count=1))
         self.put("share/registry/registry_tools", "usr/share/registry/registry_tools")
         self.put("share/registry/registry.source", "usr/share/registry/registry.source")
         for shell in ("bash-completion", "zsh"):
             self.put(f"share/{shell}", f"usr/share/{shell}")
         zsh = self.folder / "usr/share/zsh"
         (zsh / "site-functions").rename(zsh / "vendor-completions")
-        for page in ("man1/registry.1", "man1/registry-day.1", "man5/registry-day-text.5"):
-            self.zip(f"share/man/{page}", f"usr/share/man/{page}")
-        self.write("usr/share/man/man1/registry-rules.1.gz", gzip.compress(RULES_PAGE.encode(), mtime=0))
-        for name in ("RULES.md", "FORMATS.md", "examples"):
-            self.put(f"share/doc/registry/{name}", f"usr/share/doc/registry/{name}")
+        for path in sorted(self.archive.glob("share/man/man[15]/*")):
+            page = path.relative_to(self.archive)
+            self.zip(str(page), f"usr/{page}")
+        for path in sorted(self.archive.glob("share/doc/registry/*")):
+            if path.name != "CHANGELOG.md":
+                self.put(f"share/doc/registry/{path.name}", f"usr/share/doc/registry/{path.name}")
+        self.write("DEBIAN/prerm", PRERM.format(name=self.own.name, folder="usr/share/registry/registry_tools"))
         self.put("MANIFEST", "usr/share/doc/registry/MANIFEST")
         self.write("usr/share/doc/registry/README.Debian", README)
         overrides = "registry: unstripped-binary-or-object [usr/bin/registry]\n"
@@ -162,6 +166,7 @@ class Tree:
         about = f"{PYTHON}/registry-{versions.version_of(TOP)}.dist-info"
         self.write(f"{about}/METADATA", f"Metadata-Version: 2.1\nName: registry\nVersion: {versions.version_of(TOP)}\n")
         self.write(f"{about}/INSTALLER", "debian\n")
+        self.write("DEBIAN/prerm", PRERM.format(name=self.own.name, folder=f"{PYTHON}/registry"))
 
     def control(self, architecture: str) -> str:
         size = sum(path.lstat().st_size for path in self.folder.rglob("*") if not path.is_dir())
@@ -182,12 +187,11 @@ class Tree:
     def settle_modes(self) -> None:
         """Each file may be read by all, and only programs run; all have one time, so that equal files make equal
         packages."""
-        moment = int(os.environ.get("SOURCE_DATE_EPOCH", "0"))
         for path in [*self.folder.rglob("*"), self.folder]:
             if not path.is_symlink():
-                runs = path.is_dir() or path.parent.name == "bin"
+                runs = path.is_dir() or path.parent.name == "bin" or path.name == "prerm"
                 path.chmod(0o755 if runs else 0o644)
-            os.utime(path, (moment, moment), follow_symlinks=False)
+            os.utime(path, (moment(), moment()), follow_symlinks=False)
 
 
 COPYRIGHT = """\
@@ -195,7 +199,7 @@ Format: https://www.debian.org/doc/packaging-manuals/copyright-format/1.0/
 Upstream-Name: registry
 
 Files: *
-Copyright: the owner of registry
+Copyright: {year} the owner of registry
 License: none-yet
  The owner has not chosen a licence yet.
 """
@@ -214,27 +218,35 @@ MANIFEST beside this file says what is proved, by which kit, and at which
 commit. registry(1) and registry-day(1) are the manuals, registry-day-text(5)
 tells the texts. For the desk: apt install python3-flask python3-waitress.
 """
-RULES_PAGE = """\
-.TH REGISTRY\\-RULES 1 "" "registry" "The second answer"
-.SH NAME
-registry\\-rules \\- the rules of a settlement in plain Python
-.SH SYNOPSIS
-.B registry\\-rules
-.I COMMAND
-< DAY
-.SH DESCRIPTION
-It writes what registry writes, by a program that is compared and not proved.
-registry\\-rules \\-\\-help tells its commands.
-.SH SEE ALSO
-.BR registry (1)
+# What Python has made of its modules goes, so that nothing is left behind.
+PRERM = """\
+#!/bin/sh
+set -e
+if command -v py3clean >/dev/null; then
+  py3clean -p {name} /{folder}
+else
+  find /{folder} -depth -name __pycache__ -exec rm -rf {{}} +
+fi
 """
+# The head of a version in CHANGELOG.md, with its day.
+VERSION = re.compile(r"(?m)^## ([0-9.]+), ([0-9]{4}-[0-9]{2}-[0-9]{2})$")
 
 
-def changelog(full: str) -> str:
-    """What Debian keeps of the package itself."""
-    moment = time.gmtime(int(os.environ.get("SOURCE_DATE_EPOCH", "0")))
-    at = time.strftime("%a, %d %b %Y %H:%M:%S +0000", moment)
-    return f"registry ({full}) unstable; urgency=medium\n\n  * Version of the archive.\n\n -- {MAINTAINER}  {at}\n"
+def moment() -> int:
+    """The time of all that is made: that of the commit, which `tools/release` tells."""
+    return int(os.environ.get("SOURCE_DATE_EPOCH", "0"))
+
+
+def changelog(told: str) -> str:
+    """What Debian keeps of the versions, as CHANGELOG.md tells them."""
+    entries = []
+    for version, day in VERSION.findall(told):
+        at = time.strftime("%a, %d %b %Y %H:%M:%S +0000", time.strptime(day, "%Y-%m-%d"))
+        entries.append(
+            f"registry ({version}-{REVISION}) unstable; urgency=medium\n\n"
+            f"  * Version {version}: changelog.gz tells what it brings.\n\n -- {MAINTAINER}  {at}\n"
+        )
+    return "\n".join(entries)
 
 
 def make(own: Package, archive: Path, folder: Path, full: str) -> None:

@@ -16,14 +16,13 @@ from collections.abc import Iterator
 from pathlib import Path
 
 sys.path.append(str(Path(__file__).resolve().parent))
+import build_package
 import versions
 
 TOP = Path(__file__).resolve().parent.parent
 JAVA = TOP / "examples" / "java"
 # The oldest Java that reads the classes.
 RELEASE = "17"
-# No file has a time of its own.
-TIME = (1980, 1, 1, 0, 0, 0)
 # How Maven calls the jar: `mvn install:install-file -Dfile=registry-VERSION.jar -DpomFile=registry-VERSION.pom`.
 PROJECT = "META-INF/maven/registry/registry/pom.xml"
 POM = """\
@@ -95,7 +94,7 @@ def make(library: Path, folder: Path, jdk: Path) -> Path:
     made.with_suffix(".pom").write_text(POM.format(version=versions.version_of(TOP), release=RELEASE), encoding="utf-8")
     with tempfile.TemporaryDirectory() as work, zipfile.ZipFile(made, "w", zipfile.ZIP_DEFLATED) as archive:
         for name, content in parts(library, jdk, Path(work)):
-            archive.writestr(zipfile.ZipInfo(name, TIME), content, zipfile.ZIP_DEFLATED)
+            archive.writestr(zipfile.ZipInfo(name, build_package.time_of_files()), content, zipfile.ZIP_DEFLATED)
     return made
 
 

@@ -1,11 +1,11 @@
-"""Makes manual pages for man: of the program from its help, of the library from its header, and of the day text from
-docs/FORMATS.md."""
+"""Makes manual pages for man: of the program and of the second answer from their helps, of the library from its header,
+and of the day text from docs/FORMATS.md."""
 import re
 from collections.abc import Iterator
 from pathlib import Path
 
 import package  # noqa: F401
-from registry_tools.man import as_roff
+from registry_tools.man import as_it_stands, as_roff, head, see_also
 
 RETURNED = r"struct registry_answer|uint32_t|size_t|const char \*"
 PROTOTYPE = re.compile(rf"^(?:{RETURNED})\s*registry_\w+\([^;]*\);", re.MULTILINE)
@@ -15,39 +15,60 @@ INLINE = re.compile(r"`([^`]+)`|!?\[([^\]]*)\]\([^)]*\)|\*\*([^*]+)\*\*")
 CELLS = re.compile(r"(?<!\\)\|")
 
 
-def head(name: str, part: int, version: str, what: str, about: str) -> str:
-    """The first lines of a page."""
-    title = f'.TH {as_roff(name).upper()} {part} "" "registry {version}" "{about}"'
-    return f"{title}\n.SH NAME\n{as_roff(name)} \\- {what}\n"
+ENGINE = "The settlement engine"
+# Where a package for Debian has the days of the examples.
+DAY = "/usr/share/doc/registry/examples/morning-batch.csv"
+OF_PROGRAM = f"""\
+registry settle < {DAY} > report.csv
+registry statement 100210 < {DAY}
+registry plan < {DAY}"""
+OF_RULES = f"""\
+registry-rules settle < {DAY} > second.csv
+cmp report.csv second.csv"""
 
 
-def of_program(helped: str, version: str) -> str:
+def page(parts: list[str]) -> str:
+    """A page of these parts."""
+    return "\n".join([*parts, ""])
+
+
+def of_program(helped: str) -> str:
     """registry(1), from the help that the program writes."""
     uses = ["settle [--workers N]", "plan", "figures", "totals", "statement ACCOUNT"]
-    lines = [f".B registry\n{as_roff(use)} < DAY > TEXT\n.br" for use in uses]
-    return (
-        head("registry", 1, version, "settles a day of an allowance registry", "The settlement engine")
-        + ".SH SYNOPSIS\n" + "\n".join(lines) + f"\n.SH DESCRIPTION\n.nf\n{as_roff(helped.rstrip())}\n.fi\n"
-        + ".SH SEE ALSO\n.BR registry\\-day (1),\n.BR registry (3),\n.BR registry\\-day\\-text (5)\n"
-    )  # fmt: skip
+    lines = [f".B registry\n{as_roff(use)} < DAY > TEXT" for use in uses]
+    return page([
+        head("registry", 1, ENGINE, "settles a day of an allowance registry"),
+        ".SH SYNOPSIS\n" + "\n.br\n".join(lines), f".SH DESCRIPTION\n{as_it_stands(helped.rstrip())}",
+        f".SH EXAMPLES\n{as_it_stands(OF_PROGRAM)}",
+        see_also(("registry-day", 1), ("registry-rules", 1), ("registry", 3), ("registry-day-text", 5)),
+    ])  # fmt: skip
 
 
-def of_library(header: str, version: str) -> str:
+def of_rules(helped: str) -> str:
+    """registry-rules(1), from the help that the second answer writes."""
+    return page([
+        head("registry-rules", 1, "The second answer", "the rules of a settlement in plain Python"),
+        ".SH SYNOPSIS\n.B registry\\-rules\n.I COMMAND\n< DAY > TEXT",
+        f".SH DESCRIPTION\n{as_it_stands(helped.strip())}", f".SH EXAMPLES\n{as_it_stands(OF_RULES)}",
+        see_also(("registry", 1), ("registry-day", 1), ("registry-day-text", 5)),
+    ])  # fmt: skip
+
+
+def of_library(header: str) -> str:
     """registry(3), from its header."""
     calls = "\n\n".join(found[0] for found in PROTOTYPE.finditer(header))
     comment = "\n".join(re.sub(r"^ ?\*? ?", "", line) for line in header.split("*/")[0].removeprefix("/*").split("\n"))
     body = header[header.index("#define REGISTRY_VERSION") - 100 :].split("*/", 1)[1]
-    return (
-        head("registry", 3, version, "the settlement engine as a library", "The settlement engine")
-        + f".SH SYNOPSIS\n.nf\n.B #include <registry.h>\n\n{as_roff(calls)}\n\n"
-        + "Link with \\-lregistry, as pkg\\-config \\-\\-libs registry says.\n.fi\n"
-        + f".SH DESCRIPTION\n.nf\n{as_roff(comment.strip())}\n.fi\n"
-        + f".SH DECLARATIONS\n.nf\n{as_roff(body.strip())}\n.fi\n"
-        + ".SH SEE ALSO\n.BR registry (1),\n.BR registry\\-day\\-text (5)\n"
-    )  # fmt: skip
+    return page([
+        head("registry", 3, ENGINE, "the settlement engine as a library"),
+        f".SH SYNOPSIS\n.nf\n.B #include <registry.h>\n\n{as_roff(calls)}\n",
+        "Link with \\-lregistry, as pkg\\-config \\-\\-libs registry says.\n.fi",
+        f".SH DESCRIPTION\n{as_it_stands(comment.strip())}", f".SH DECLARATIONS\n{as_it_stands(body.strip())}",
+        see_also(("registry", 1), ("registry-day-text", 5)),
+    ])  # fmt: skip
 
 
-def of_text(document: str, version: str) -> str:
+def of_text(document: str) -> str:
     """registry-day-text(5), from the sections of docs/FORMATS.md that are about texts."""
     sections = re.split(r"(?m)^## ", re.sub(r"<!--.*?-->\n?", "", document, flags=re.DOTALL))[1:]
     named = {section.partition("\n")[0]: section.partition("\n")[2] for section in sections}
@@ -55,11 +76,13 @@ def of_text(document: str, version: str) -> str:
     rows = re.findall(r"(?m)^\| (?:- )?`([a-z]+(?:,[A-Z]+)*)`", named["The day text"])
     rows = rows[: rows.index("end") + 1]
     what = "a day of an allowance registry, and what is written of it"
-    parts = [head("registry-day-text", 5, version, what, "Texts")]
-    parts.append(".SH SYNOPSIS\n.nf\n" + as_roff("\n".join(rows)) + "\n.fi\n")
+    parts = [f'{head("registry-day-text", 5, "Texts", what)}\n.SH SYNOPSIS\n']
+    parts.append(as_it_stands("\n".join(rows)) + "\n")
     for name in OF_TEXT:
         parts += [f".SH {as_roff(name.upper())}\n", *lines_of(named[name].strip().split("\n"))]
-    return "".join([*parts, ".SH SEE ALSO\n.BR registry (1),\n.BR registry\\-day (1)\n"])
+    parts.append(see_also(("registry", 1), ("registry-day", 1)) + "\n")
+    # (a paragraph in front of another, or behind a heading, is one that is there)
+    return re.sub(r"(?m)^\.PP\n(?=\.(?:PP|IP|TP|SH|SS|RS)\b)", "", "".join(parts))
 
 
 def plain(words: str) -> str:

@@ -17,12 +17,14 @@ from collections.abc import Iterator
 from pathlib import Path
 
 sys.path.append(str(Path(__file__).resolve().parent))
+import bill
 import build_package
+import documents
 import jars
 import manual
 import package  # noqa: F401
 import versions
-from registry_tools import completion, streams
+from registry_tools import completion, man, streams
 
 sys.path.insert(0, str(Path(__file__).resolve().parent.parent / "packaging"))
 import build_registry  # noqa: E402
@@ -31,11 +33,8 @@ TOP = Path(__file__).resolve().parent.parent
 PACKAGING = TOP / "packaging"
 OUT = TOP / "out"
 LIBRARY = OUT / "library"
-SHARED = "share/registry"
+SHARED, DOCUMENTS = "share/registry", "share/doc/registry"
 PYTHON = TOP / "examples/python/src/registry"
-DOCUMENTS = ("CHANGELOG.md", "docs/RULES.md", "docs/FORMATS.md")
-# What is read of examples/.
-WEEK = ("week", "first-transfer.csv", "morning-batch.csv")
 # The sources of the bindings, without what a build leaves, and without tests, which read cases.
 SOURCES = {f"src/{name}": f"examples/{name}" for name in ("c", "java", "python", "rust")}
 LEFT_OUT = shutil.ignore_patterns("target", "out", "tests", "__pycache__", "*.class", "*.so", "*.jar", "*.pyc")
@@ -76,14 +75,16 @@ def put_library(folder: Path) -> None:
         shutil.copytree(LIBRARY / part, folder / part, symlinks=True)
 
 
-def put_manuals(folder: Path, version: str) -> None:
+def put_manuals(folder: Path) -> None:
     """The manual pages, and what shells complete."""
     pages = folder / "share/man"
-    write(pages / "man1/registry.1", manual.of_program(said(OUT / "registry", "--help"), version))
-    write(pages / "man1/registry-day.1", said(folder / "bin/registry-day", "man"))
-    write(pages / "man3/registry.3", manual.of_library(manual.read(TOP / "include/registry.h"), version))
-    write(pages / "man5/registry-day-text.5", manual.of_text(manual.read(TOP / "docs/FORMATS.md"), version))
     streams.names["./day"] = "registry-day"
+    write(pages / "man1/registry.1", manual.of_program(said(OUT / "registry", "--help")))
+    write(pages / "man1/registry-rules.1", manual.of_rules(said(folder / "bin/registry-rules", "--help")))
+    for name, text in man.pages().items():
+        write(pages / "man1" / name, text)
+    write(pages / "man3/registry.3", manual.of_library(manual.read(TOP / "include/registry.h")))
+    write(pages / "man5/registry-day-text.5", manual.of_text(documents.in_installation("FORMATS.md")))
     for name, text in completion.files().items():
         write(folder / "share" / name, text)
 
@@ -94,17 +95,10 @@ def said(*words: str | Path) -> str:
 
 
 def put_documents(folder: Path) -> None:
-    own = folder / "share/doc/registry"
-    for name in DOCUMENTS:
-        copy(TOP / name, own / Path(name).name)
-    for name in WEEK:
-        source = TOP / "examples" / name
-        if source.is_dir():
-            shutil.copytree(source, own / "examples" / name)
-        else:
-            copy(source, own / "examples" / name)
-    for source in (PACKAGING / "README", PACKAGING / "INSTALL", TOP / "CHANGELOG.md"):
+    documents.put(folder / DOCUMENTS)
+    for source in (PACKAGING / "README", PACKAGING / "INSTALL"):
         copy(source, folder / source.name)
+    write(folder / "CHANGELOG.md", documents.at_top(documents.in_installation("CHANGELOG.md"), DOCUMENTS))
 
 
 def put_sources(folder: Path) -> None:
@@ -133,6 +127,7 @@ def put_python(folder: Path, library: Path, source: Path) -> None:
     copy(library, folder / "registry/libregistry.so")
     copy(source, folder / "registry/registry.source")
     copy(PACKAGING / "build_registry.py", folder / "build_registry.py")
+    copy(TOP / "examples/python/README.md", folder / "README.md")
     write(folder / "pyproject.toml", build_registry.PROJECT)
 
 
@@ -148,6 +143,8 @@ def note(path: Path) -> dict[str, str]:
 
 def commit_here() -> str:
     """The commit of all that is no source of the program."""
+    if shutil.which("git") is None:
+        return "not known, since git is not here"
     run = subprocess.run(["git", "-C", TOP, "rev-parse", "--short=12", "HEAD"], capture_output=True, check=False)
     return run.stdout.decode().strip() or "no commit of git"
 
@@ -188,13 +185,15 @@ def fill(folder: Path, platform: str) -> None:
     folder.mkdir(parents=True)
     put_programs(folder)
     put_library(folder)
-    put_manuals(folder, version)
+    put_manuals(folder)
     put_documents(folder)
     put_sources(folder)
     write(folder / "MANIFEST", manifest(folder, version, platform))
     for path in folder.rglob("*"):
         if not path.is_symlink():
             path.chmod(0o755 if path.is_dir() or path.stat().st_mode & stat.S_IXUSR else 0o644)
+    kit, used = note(OUT / "registry.source")["kit"], {*crates("registry").split(), *crates("registry_c").split()}
+    write(folder / bill.NAME, bill.of_archive(folder, version, kit, used, build_package.moment()))
     write(folder / "SHA256SUMS", "".join(sums(folder)))
 
 
