@@ -12,7 +12,7 @@ from pathlib import Path
 from types import ModuleType
 from typing import Literal, Protocol
 
-from registry_tools import installed
+from registry_tools import installed, streams
 from registry_tools.errors import FileFault, WordsFault, of_file
 from registry_tools.progress import progress
 from registry_tools.texts.day_text import DayText
@@ -23,7 +23,6 @@ TOP = Path(__file__).resolve().parents[2]
 LIBRARY = TOP / "out/library/lib/libregistry.so.1"
 CALLS = TOP / "examples/python/src/registry/native.py"
 NO_LIBRARY = "there is no library that is as new as its sources: name a program, or run tools/library out/library"
-NOTHING_BESIDE = "there is no program and no library beside ./day: name a program"
 
 
 # What programs have said on standard error so far.
@@ -37,6 +36,11 @@ def tell_once(said: bytes) -> None:
         told.add(words)
         progress.clear()
         print(words, file=sys.stderr)
+
+
+def nothing_beside() -> str:
+    """What an installation lacks that settles by no library."""
+    return f"there is no program and no library beside {streams.names['./day']}: name a program"
 
 
 class NotSettled(Exception):
@@ -153,7 +157,7 @@ def settler_of(program: str | Literal[True], option: str) -> Settler:
         return Program(program, option)
     library, beside = find_library(), installed.program()
     if library is None and beside is None:
-        raise WordsFault(f"{option}: {NO_LIBRARY if installed.is_checkout() else NOTHING_BESIDE}")
+        raise WordsFault(f"{option}: {NO_LIBRARY if installed.is_checkout() else nothing_beside()}")
     return library or Program(str(beside), option)
 
 

@@ -66,7 +66,9 @@ OFFICE_COMMANDS = {
 }
 MODULES = {"hand-in": "hand_in", "take-back": "take_back", "try": "trial"}
 # Commands whose modules lie in other rooms of the package than cli.
-ROOMS = {"import": "sheets.importing", "form": "sheets.form", "desk": "desk.desk", "completion": "completion", "man": "man"}
+ROOMS = {
+    "import": "sheets.importing", "form": "sheets.form", "desk": "desk.desk", "completion": "completion", "man": "man",
+}  # fmt: skip
 
 HEAD = """./day COMMAND ..
 
@@ -108,7 +110,7 @@ def help_text() -> str:
     lines = [f"  {name.ljust(width)}  {what}\n" for name, what in COMMANDS.items()]
     own = [f"  {name.ljust(width)}  {what}\n" for name, what in OFFICE_COMMANDS.items()]
     of_folder = "\nIn a folder that remembers its days, or with --office FOLDER:\n\n"
-    return streams.by_name("".join([HEAD, *lines, of_folder, *own, TAIL]))
+    return streams.in_help("".join([HEAD, *lines, of_folder, *own, TAIL]))
 
 
 def perhaps_meant(word: str) -> str:
@@ -122,7 +124,8 @@ def perhaps_meant(word: str) -> str:
 
 def parser_of(name: str, module: Command, names_day: bool = False) -> Words:
     """The parser of a command. It reads no paths of a day if the words name a day of a folder in their place."""
-    parser = Words(names_day, prog=f"./day {name}", description=module.__doc__, epilog=f"example:\n  {module.EXAMPLE}")
+    example = f"example:\n  {module.EXAMPLE}"
+    parser = Words(names_day, prog=voice.command(name), description=module.__doc__, epilog=example)
     module.add_words(parser)
     named_day.add_words(name, parser)
     return parser
@@ -188,21 +191,22 @@ def main(arguments: list[str]) -> int:
         with contextlib.suppress(OSError):
             outcomes.write(Path(arguments[2]), status)
         return status
+    tool = streams.names["./day"]
     if arguments[:1] == ["help"]:
         arguments = [*arguments[1:2], "--help"]
     if arguments[:1] in (["-h"], ["--help"], ["-V"], ["--version"]) and arguments[1:]:
-        print(f"./day: {arguments[0]} takes no other word: found {' '.join(arguments[1:])}", file=sys.stderr)
+        print(f"{tool}: {arguments[0]} takes no other word: found {' '.join(arguments[1:])}", file=sys.stderr)
         return 2
     if arguments[:1] in (["-h"], ["--help"]):
-        return streams.write("./day", help_text(), NOT_WRITTEN)
+        return streams.write(tool, help_text(), NOT_WRITTEN)
     if arguments[:1] in (["-V"], ["--version"]):
-        return streams.write("./day", streams.by_name(f"./day of registry {tables.VERSION}\n"), NOT_WRITTEN)
+        return streams.write(tool, f"{tool} of registry {tables.VERSION}\n", NOT_WRITTEN)
     if not arguments:
         print(help_text(), end="", file=sys.stderr)
         return 2
     name, *rest = arguments
     if name not in COMMANDS and name not in OFFICE_COMMANDS:
-        print(f"{perhaps_meant(name)}./day: there is no command {name}; ./day --help tells all", file=sys.stderr)
+        print(f"{perhaps_meant(name)}{tool}: there is no command {name}; {tool} --help tells all", file=sys.stderr)
         return 2
     try:
         status = run(name, rest)

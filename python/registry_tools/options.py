@@ -64,7 +64,7 @@ class Words(argparse.ArgumentParser):
 
     def format_help(self) -> str:
         """The help, by the name under which the command was started."""
-        return streams.by_name(super().format_help())
+        return streams.in_help(super().format_help())
 
     def _print_message(self, message: str, file: IO[str] | None = None) -> None:
         """Writes the help, or why the words are not taken. (The one of argparse passes over a stream that takes

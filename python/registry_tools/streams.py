@@ -6,26 +6,26 @@ import sys
 from typing import Any, TextIO, cast
 
 
-# How the commands of a checkout are called in what is said, and in an installation: see `by_name`.
+# How the commands of a checkout are called in what is said, and in an installation.
 names = {"./day": "./day"}
 
 
-def by_name(text: str) -> str:
-    """A text that names commands, by the name under which this one was started."""
+def in_help(text: str) -> str:
+    """A help, which is written for a checkout, by the name under which the command was started."""
     return text if names["./day"] == "./day" else text.replace("./day", names["./day"])
 
 
 class Quiet:
     """Standard error, to whom it matters not whether somebody takes what is said: the answer and the exit status are
-    the same. It names the commands as they were started."""
+    the same."""
 
     def __init__(self, stream: TextIO) -> None:
         self.stream = stream
 
     def write(self, text: str) -> int:
-        """Writes, by the name under which the command was started, and passes over a stream that takes nothing."""
+        """Writes, and passes over a stream that takes nothing."""
         with contextlib.suppress(OSError, ValueError):
-            self.stream.write(by_name(text))
+            self.stream.write(text)
             self.stream.flush()
         return len(text)
 

@@ -10,7 +10,7 @@ from collections.abc import Iterator
 from contextvars import ContextVar
 from pathlib import Path
 
-from registry_tools import streams
+from registry_tools import streams, voice
 
 # A time of the events of a folder.
 TIME = "%Y-%m-%dT%H:%M:%SZ"
@@ -22,7 +22,7 @@ class Terminal:
     is_desk = False
 
     def command(self, name: str, *words: object) -> str:
-        """A command that does something, with its words."""
+        """A command that does something, with its words, by the name under which this one was started."""
         return " ".join(map(str, (streams.names["./day"], name, *words)))
 
     def option(self, name: str, *words: object) -> str:

@@ -12,7 +12,7 @@ system.
 """
 import argparse
 
-from registry_tools import streams, voice
+from registry_tools import voice
 from registry_tools.calendars import dates
 from registry_tools.cli import words
 from registry_tools.errors import WordsFault
@@ -55,7 +55,7 @@ def show_waiting(said: argparse.Namespace) -> int:
         lines, parts = approve.waiting(office)
     for part in parts:
         lines += [f"  {part.place}: {part.name}", *(f"    {row}" for row in part.rows)]
-    print(streams.by_name("\n".join(lines or [NOTHING])))
+    print("\n".join(lines or [NOTHING]))
     return 0
 
 

@@ -16,7 +16,7 @@ import argparse
 import sys
 from collections.abc import Iterator
 
-from registry_tools import streams, tables, voice
+from registry_tools import tables, voice
 from registry_tools.cli import asked as asking, words
 from registry_tools.errors import FOUND, WordsFault
 from registry_tools.office import change, folder, handed
@@ -169,7 +169,7 @@ def run(said: argparse.Namespace) -> int:
     with folder.opened(said.office) as office:
         asked = Change(tuple(edits_of(said, office.names())), why, said.yes)
         came = change.change_by_hand(office, words.by(said, office.people), asked)
-    print(streams.by_name("\n".join([*came.rows, *came.notes])))
+    print("\n".join([*came.rows, *came.notes]))
     if came.part is None:
         print(f"this would be changed for {came.date}; nothing is, without {voice.option('yes')}")
         return FOUND

@@ -13,7 +13,7 @@ exit status: 0 if the day is filed, 1 if something is to be looked at first.
 """
 import argparse
 
-from registry_tools import streams, voice
+from registry_tools import voice
 from registry_tools.calendars import dates
 from registry_tools.cli import papers, words
 from registry_tools.errors import FOUND
@@ -48,11 +48,11 @@ def run(said: argparse.Namespace) -> int:
         if isinstance(came, AskedFor):
             return words.tell_asked_for(came)
         if isinstance(came, Doubts):
-            print(streams.by_name("\n".join([*came.lines, f"{came.date} is not filed, without {voice.option('yes')}"])))
+            print("\n".join([*came.lines, f"{came.date} is not filed, without {voice.option('yes')}"]))
             return FOUND
         # (it is another one on each machine, and the answer is not)
         words.to_errors(f"settled by {came.settled.engine}\nhead: {office.events.head}")
-        print(streams.by_name("\n".join([*summary(came.outcome, said.second), *came.left])))
+        print("\n".join([*summary(came.outcome, said.second), *came.left]))
         papers.make_papers(office, came.event)
     return 0
 

@@ -17,7 +17,6 @@ exit status: 0 if it is done, 1 if --yes or another login is still needed.
 """
 import argparse
 
-from registry_tools import streams
 from registry_tools.calendars import dates
 from registry_tools.cli import papers, words
 from registry_tools.errors import FOUND
@@ -75,5 +74,5 @@ def tell(shown: Shown) -> None:
     """Shows what each day becomes."""
     for date, lines in shown.days:
         print(f"{date}:{'' if lines else ' as it was'}")
-        print(streams.by_name("".join(f"  {line}\n" for line in lines)), end="")
+        print("".join(f"  {line}\n" for line in lines), end="")
     print("".join(f"{note}\n" for note in shown.notes), end="")

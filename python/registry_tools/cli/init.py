@@ -8,7 +8,7 @@ program settles, and whether ./day close makes statements and pages; change it w
 import argparse
 from pathlib import Path
 
-from registry_tools import streams
+from registry_tools import voice
 from registry_tools.cli import words
 from registry_tools.office import folder
 from registry_tools.office.init import Init, change_first, init
@@ -40,6 +40,6 @@ def run(said: argparse.Namespace) -> int:
     else:
         first = init(asked, words.by(said, People()))
     date, counts = first.head.date, f"accounts {len(first.book)}, instructions {len(first.instructions)}"
-    then = streams.by_name(f"./day close --date {date} settles it")
+    then = f"{voice.command('close', '--date', date)} settles it"
     print(f"{path}: the first text is that of {date}: {counts}. {then}")
     return 0

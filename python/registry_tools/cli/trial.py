@@ -9,7 +9,7 @@ exit status: 0 if everything would be done or wait, 1 if something would be refu
 """
 import argparse
 
-from registry_tools import streams, voice
+from registry_tools import voice
 from registry_tools.calendars import dates
 from registry_tools.cli import words
 from registry_tools.errors import FOUND
@@ -46,7 +46,7 @@ def tell(looked: list[Looked], next_day: NextDay, places: set[int] | None = None
     shown = [tried for tried in looked if places is None or tried.place in places]
     refused = [tried for tried in shown if tried.is_refused]
     for note in worth_telling(next_day.notes):
-        print(streams.by_name(note))
+        print(note)
     if any(tried.outcome != "done" for tried in shown):
         print("\n".join(trial.table_of([tried for tried in shown if tried.outcome != "done"])))
     print("".join(f"{name}: {said}\n" for name, said in trial.whys(shown).items()), end="")

@@ -5,7 +5,7 @@ import datetime
 from collections.abc import Iterable, Iterator
 from dataclasses import dataclass, replace
 
-from registry_tools import tables
+from registry_tools import tables, voice
 from registry_tools.errors import FileFault, WordsFault
 from registry_tools.notes import LOOK, Notes
 from registry_tools.office import approvals, composing, handed
@@ -122,7 +122,7 @@ def on_pair(day: DayText, report: Report, made: list[Edit]) -> tuple[bytes, list
     """The whole blocks of the accounts that differences change, behind a report of a folder that nobody keeps, and the
     rows that go and come. Raises WordsFault if they change nothing."""
     if any(edit.number == 0 for edit in made):
-        where = "change a row of the rules in the text that ./day next writes"
+        where = f"change a row of the rules in the text that {voice.command('next')} writes"
         raise WordsFault(f"with --pairs only accounts are changed: {where}")
     blocks = edits.edited_blocks(made, report, {})
     text = text_of_rows([row for rows in blocks.values() for row in rows])

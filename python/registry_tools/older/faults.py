@@ -3,6 +3,7 @@ import datetime
 from dataclasses import dataclass, field
 from pathlib import Path
 
+from registry_tools import voice
 from registry_tools.errors import FileFault
 from registry_tools.notes import counted
 from registry_tools.older import handed, journal
@@ -18,13 +19,23 @@ from registry_tools.texts.rows import KeptText
 JOURNAL_BACK = "put the journal back from a copy: audit --anchors tells whether it is the right one"
 JOURNAL_FIRST = "mend the journal first, and audit again"
 FILES_FIRST = "mend the files of this day first, and audit again"
-SETTLE_AGAIN = "./day undo takes the days back to this one, to be closed again; if released, a later day corrects it"
 AWAY, NEXT_BACK = "move it to another folder", "put it back from a copy, or take it back and hand it in again"
-WAITS_BACK = "put it back from a copy: else ./day undo and ./day close of the last day write it anew"
 APPROVES_NOTHING = "take the file away: it approves nothing"
 SAY_AGAIN = "take it back, and hand it in once more"
 # The files of a day, by the columns of its event.
 KEY_OF = {"text": "day", "report": "report", "waiting": "waiting"}
+
+
+def settle_again() -> str:
+    """How a day is settled once more."""
+    way = f"{voice.command('undo')} takes the days back to this one, to be closed again"
+    return f"{way}; if released, a later day corrects it"
+
+
+def waits_back() -> str:
+    """How what waits behind the last day is had again."""
+    anew = f"{voice.command('undo')} and {voice.command('close')} of the last day write it anew"
+    return f"put it back from a copy: else {anew}"
 
 
 @dataclass
@@ -43,7 +54,7 @@ class OlderFound(Found):
             return JOURNAL_FIRST
         before = [own for own in self.changed if own < date]
         if date in self.changed or not before:
-            return FILES_FIRST if date in self.changed else SETTLE_AGAIN
+            return FILES_FIRST if date in self.changed else settle_again()
         return f"mend the files of {max(before)} first, and audit again"
 
     def add(self, *faults: FileFault | None, mend: str = "") -> None:

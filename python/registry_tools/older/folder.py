@@ -13,7 +13,7 @@ from collections.abc import Iterator
 from dataclasses import dataclass, field
 from pathlib import Path
 
-from registry_tools import opening
+from registry_tools import opening, voice
 from registry_tools.errors import FileFault, of_file
 from registry_tools.office import settings
 from registry_tools.office.settings import Settings
@@ -32,7 +32,6 @@ LEFT = ("prepared", ".building", ".done", ".journal.csv.new")
 PAPERS = {"statements", "pages"}
 MOST_KEPT = 1
 PUT_BACK = "put it back as it was filed"
-LABEL_BY_HAND = "./day label --by-hand --why WORDS"
 
 
 @dataclass
@@ -94,7 +93,7 @@ class Folder:
     def changed_file(self, event: Event, key: str) -> FileFault | None:
         """Whether a file of a day is another one than was filed: what is wrong with it, and what to do."""
         path, filed = self.file(event, key), event.sums.get(key)
-        back = f"{PUT_BACK}: ./day mend {event.date} may make it again, or a copy has it"
+        back = f"{PUT_BACK}: {voice.command('mend', event.date)} may make it again, or a copy has it"
         try:
             there = sum_of(bytes_in(path))
         except FileFault as fault:
@@ -135,7 +134,8 @@ class Folder:
         there = sum_of(self.labels()) if (self.path / LABELS).exists() else ""
         if last and last.labels and there != last.labels:
             is_labelled = any(event.event == journal.LABELLED for event in self.journal.events)
-            keeps = LABEL_BY_HAND if is_labelled else "the next close or release"
+            by_hand = voice.command("label", "--by-hand", "--why", "WORDS")
+            keeps = by_hand if is_labelled else "the next close or release"
             meant = f"if names were meant to change, {keeps} keeps the new ones"
             expected = f"{last.labels}, as {self.journal.path} says of {last.date}: {meant}"
             yield FileFault(self.path / LABELS, 0, "SHA-256", there or "no file", expected)
@@ -161,7 +161,7 @@ def alone(path: Path) -> Iterator[None]:
     """No command of version 1.1 changes the folder in the block. Raises FileFault if one does, or left something."""
     for name in LEFT:
         if os.path.lexists(path / name):
-            way = "./day status of version 1.1 puts it right: upgrade behind it"
+            way = f"{voice.command('status')} of version 1.1 puts it right: upgrade behind it"
             raise FileFault(path / name, 0, "", "what an interrupted command left", f"no such thing: {way}")
     file = opening.open_file(path / LOCK, os.O_RDONLY) if (path / LOCK).exists() else None
     try:

@@ -4,6 +4,7 @@ import csv
 import re
 from pathlib import Path
 
+from registry_tools import voice
 from registry_tools.errors import FileFault, shown
 from registry_tools.office import people
 from registry_tools.office.people import PROXY, People
@@ -55,7 +56,7 @@ def must_be_of_commands(handed: HandedIn) -> None:
     named = {NAME, LOOKED, WAITS, *(part.file for part in handed.parts), *(own.file for own in handed.sources())}
     for path in paths_in(handed.folder):
         if path.name not in named and not OF_APPROVALS.fullmatch(path.name) and not OWN_FILE.fullmatch(path.name):
-            expected = "no such file: move it to another folder, and ./day hand-in takes it from there"
+            expected = f"no such file: move it to another folder, and {voice.command('hand-in')} takes it from there"
             raise FileFault(path, 0, "", "a file that nobody handed in", expected)
 
 

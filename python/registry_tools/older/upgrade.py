@@ -171,7 +171,7 @@ class Making:
         text = waits_text(day, report, self.found.text_of(event, "waiting"))
         if old is self.folder.journal.filed()[-1]:
             path = faults.waits_path(self.folder)
-            compare_texts(self.found, path, bytes_in(path), text, f"the day {old.date}", faults.WAITS_BACK)
+            compare_texts(self.found, path, bytes_in(path), text, f"the day {old.date}", faults.waits_back())
         return self.store.texts.put(text)
 
     def texts_of(self, old: journal.Event) -> dict[str, str]:

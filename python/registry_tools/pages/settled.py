@@ -5,6 +5,7 @@ import functools
 from pathlib import Path
 from typing import Any, Callable, Collection, Iterable, Iterator, Sequence, TypeVar
 
+from registry_tools import voice
 from registry_tools.calendars.due_days import NOT_DUE, due_day_after, head_after
 from registry_tools.errors import shown
 from registry_tools.office.handed import Item
@@ -207,7 +208,8 @@ def told_in(folder: str) -> list[list[str]]:
     told = [source.fields(place) for place in range(len(source))]
     for place, fields in enumerate(told):
         if len(fields) != len(TOLD) or (not place and fields != [*TOLD]):
-            raise source.fault(place, "row", shown(",".join(fields)), f"{','.join(TOLD)}, as ./day unpack writes it")
+            expected = f"{','.join(TOLD)}, as {voice.command('unpack')} writes it"
+            raise source.fault(place, "row", shown(",".join(fields)), expected)
     return [[at, who, why, beside.change_in_words(change.split("\n"))] for at, who, _, _, why, change in told[1:]]
 
 

@@ -5,7 +5,7 @@ import datetime
 from collections.abc import Collection, Iterator
 from dataclasses import dataclass
 
-from registry_tools import tables
+from registry_tools import tables, voice
 from registry_tools.calendars.due_days import NOT_DUE, due_day_after, is_due
 from registry_tools.calendars.working_days import days_in_words, look_at_calendar, next_calendar
 from registry_tools.errors import FileFault, RowFault, WordsFault, of_file, raise_first
@@ -58,7 +58,7 @@ def read_changes(day: DayText, report: Report, path: str, periods: list[tuple[in
         count = "1 period" if len(years) == 1 else f"{len(years)} periods"
         expected = (
             f"a period of the day, and {day.path} has {count}: add the row of that period to it, and in version 1 also "
-            "format,2 and current,1; in a folder, ./day change --period does so (see "
+            f"format,2 and current,1; in a folder, {voice.command('change', '--period')} does so (see "
             "docs/FORMATS.md#from-version-1-to-version-2)"
         )
         raise FileFault(fault.path, fault.line, fault.field, fault.found, expected) from None
@@ -120,7 +120,7 @@ def tell_refused(report: Report, notes: Notes) -> None:
         again = f"Add working days and enter it again: {logged.instruction.row}"
         notes.warn(f"{report.path}:{logged.line}: refused as {OUTSIDE}. {again}")
     others = sum(not logged.is_done and logged.name not in (NOT_DUE, OUTSIDE) for logged in report.log)
-    each = " (./day log --refused shows each)" if others else ""
+    each = f" ({voice.command('log', '--refused')} shows each)" if others else ""
     notes.add(f"refused by {report.path} for other reasons: {others}{each}")
 
 

@@ -7,7 +7,7 @@ from collections.abc import Iterator
 from dataclasses import dataclass
 from pathlib import Path
 
-from registry_tools import opening, steps
+from registry_tools import opening, steps, voice
 from registry_tools.errors import FileFault, of_file
 from registry_tools.output import name_beside, remove_left
 from registry_tools.questions.days import Days
@@ -83,7 +83,8 @@ def days_there(path: str) -> list[tuple[str, str, str]]:
         return []
     with contextlib.closing(sqlite3.connect(path)) as database:
         if not database.execute(HAS_DAYS).fetchone():
-            raise FileFault(path, 0, "", "a file that ./day db has not made", "one that it has made, or no such file")
+            found = f"a file that {voice.command('db')} has not made"
+            raise FileFault(path, 0, "", found, "one that it has made, or no such file")
         return database.execute(DAYS_IN).fetchall()
 
 

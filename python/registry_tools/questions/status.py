@@ -4,7 +4,7 @@ import datetime
 from collections.abc import Iterator
 from dataclasses import dataclass
 
-from registry_tools import streams, tables
+from registry_tools import tables, voice
 from registry_tools.calendars.working_days import days_in_words
 from registry_tools.errors import FileFault
 from registry_tools.notes import LOOK, counted
@@ -106,11 +106,11 @@ def last_lines(office: Office, handed_in: HandedIn) -> Iterator[tuple[str, str]]
     """What is told of the last day."""
     last, first = office.last(), handed_in.first_text()
     if first:
-        settles = streams.by_name(f"./day close --date {first.head.date} settles the first text")
+        settles = f"{voice.command('close', '--date', first.head.date)} settles the first text"
         yield "last day", f"none is settled yet; {settles}"
     if last is None:
         return
-    not_released = streams.by_name(f"not released: ./day undo {last.date} takes it back")
+    not_released = f"not released: {voice.command('undo', last.date)} takes it back"
     released = "released" if office.events.is_released() else not_released
     approved = f", approved by {office.people.in_words(last.approved)}" if last.approved else ""
     who = approvals.who_did(office, last.who, last.login)

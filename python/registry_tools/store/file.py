@@ -13,7 +13,7 @@ from dataclasses import dataclass
 from importlib import resources
 from pathlib import Path
 
-from registry_tools import opening, steps
+from registry_tools import opening, steps, voice
 from registry_tools.errors import FileFault, UnwrittenFault, of_file
 from registry_tools.opening import LinkFault
 from registry_tools.store import events
@@ -32,7 +32,6 @@ MOST_WAIT, SHORT_WAIT = 60_000, 200
 CACHE = 64 * 1024
 # How SQLite says that it can't read a file. (Its sentences may have bytes of the file in them.)
 UNREADABLE = (sqlite3.DatabaseError, UnicodeError)
-OLDER = "a folder of version 1.1: ./day upgrade FOLDER makes the file of it"
 BY_OTHERS = "the file of one login: who else works with the folder comes by its desk"
 
 
@@ -186,7 +185,8 @@ def look_at(folder: Path) -> Path:
         file = opening.open_file(path, os.O_RDONLY)
     except FileNotFoundError:
         if (folder / "journal.csv").exists():
-            raise FileFault(path, 0, "", "no such file", OLDER) from None
+            older = f"a folder of version 1.1: {voice.command('upgrade', 'FOLDER')} makes the file of it"
+            raise FileFault(path, 0, "", "no such file", older) from None
         raise of_file(path, "it is not there: put it back from a copy") from None
     except OSError as error:
         raise of_file(path, f"it cannot be read: {error.strerror}") from None

@@ -4,8 +4,10 @@ import re
 from collections.abc import Callable, Iterable
 from dataclasses import dataclass, replace
 
-from registry_tools import streams, tables, voice
+from registry_tools import tables, voice
 
+# A command, as a table marks it.
+MARKED = re.compile(r"`\./day ([a-z-]+)")
 LINK = re.compile(r"\[([^]]+)\]\(([^)]*)\)")
 # What forms and letters call the accounts of an instruction.
 IN_FORMS = {
@@ -34,7 +36,7 @@ def without_marks(text: str, place: Callable[[str], str] = "docs/RULES.md{}".for
     """A sentence of a table without its marks. A link that only says `below` names the place, a section of the
     rules."""
     words = LINK.sub(lambda link: place(link[2]) if link[1] == "below" else link[1], text)
-    return streams.by_name(words.replace("`", ""))
+    return MARKED.sub(lambda marked: voice.TERMINAL.command(marked[1]), words).replace("`", "")
 
 
 def form_words(text: str) -> str:

@@ -5,6 +5,7 @@ import difflib
 import re
 from collections.abc import Iterable
 
+from registry_tools import voice
 from registry_tools.errors import shown
 from registry_tools.second import faults
 from registry_tools.second.faults import Fault
@@ -18,7 +19,7 @@ ONLY_VERSION_2 = {"current", "correction"}
 OTHER_TEXTS = {
     "log": "a report", "book": "a report", "totals": "a report", "opening": "a statement", "closing": "a statement",
     "statement": "a statement", "task": "a plan", "arrow": "a plan", "determined": "the figures",
-    "record": "the table of ./day log", "waits": "a pending file", "entered": "a pending file",
+    "record": "the table of {}", "waits": "a pending file", "entered": "a pending file",
 }  # fmt: skip
 YES = dict.fromkeys(("true", "y", "1", "ja", "oui"), "yes") | dict.fromkeys(("false", "n", "0", "nein", "non"), "no")
 OTHER_WORDS = {"delete": "deletion", "deletion": "delete", "surrendered": "surrender", "deleted": "deletion"}
@@ -66,7 +67,8 @@ def of_tag(fault: Fault, row: list[str], version: int) -> str:
     if tag == "period" and version == 1 and fault.expected.endswith("lags"):
         return "a second period is only in version 2: write format,2, and a row current behind the periods"
     if tag in OTHER_TEXTS:
-        return f"this is a row of {OTHER_TEXTS[tag]}, and not of a day text"
+        other = OTHER_TEXTS[tag].format(voice.command("log"))
+        return f"this is a row of {other}, and not of a day text"
     if tag in TAGS:
         return of_known_tag(fault, tag)
     meant = meant_tag(tag)
@@ -75,7 +77,7 @@ def of_tag(fault: Fault, row: list[str], version: int) -> str:
     if len(row) == 1 and "," in tag:
         return "the whole row stands in double quotes: take them away"
     if fault.expected.endswith("format"):
-        return "a header row: a day text has none. ./day import reads a table with one"
+        return f"a header row: a day text has none. {voice.command('import')} reads a table with one"
     return ""
 
 
