@@ -125,7 +125,7 @@ def perhaps_meant(word: str) -> str:
 def parser_of(name: str, module: Command, names_day: bool = False) -> Words:
     """The parser of a command. It reads no paths of a day if the words name a day of a folder in their place."""
     example = f"example:\n  {module.EXAMPLE}"
-    parser = Words(names_day, prog=voice.command(name), description=module.__doc__, epilog=example)
+    parser = Words(names_day, prog=voice.TERMINAL.command(name), description=module.__doc__, epilog=example)
     module.add_words(parser)
     named_day.add_words(name, parser)
     return parser

@@ -10,7 +10,7 @@ from collections.abc import Iterator
 from contextvars import ContextVar
 from pathlib import Path
 
-from registry_tools import streams, voice
+from registry_tools import streams
 
 # A time of the events of a folder.
 TIME = "%Y-%m-%dT%H:%M:%SZ"

@@ -10,7 +10,7 @@ from registry_tools.older import handed, journal
 from registry_tools.older.folder import PUT_BACK, Folder
 from registry_tools.older.handed import MERGED, HandedIn
 from registry_tools.older.journal import Event
-from registry_tools.questions.seams import Found, Given
+from registry_tools.questions.seams import Found, Given, settle_again
 from registry_tools.store import events
 from registry_tools.texts.day_text import DayText
 from registry_tools.texts.rows import KeptText
@@ -24,12 +24,6 @@ APPROVES_NOTHING = "take the file away: it approves nothing"
 SAY_AGAIN = "take it back, and hand it in once more"
 # The files of a day, by the columns of its event.
 KEY_OF = {"text": "day", "report": "report", "waiting": "waiting"}
-
-
-def settle_again() -> str:
-    """How a day is settled once more."""
-    way = f"{voice.command('undo')} takes the days back to this one, to be closed again"
-    return f"{way}; if released, a later day corrects it"
 
 
 def waits_back() -> str:
