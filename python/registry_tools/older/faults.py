@@ -10,7 +10,7 @@ from registry_tools.older import handed, journal
 from registry_tools.older.folder import PUT_BACK, Folder
 from registry_tools.older.handed import MERGED, HandedIn
 from registry_tools.older.journal import Event
-from registry_tools.questions.seams import Found, Given, settle_again
+from registry_tools.questions.seams import Found, Given, close_again
 from registry_tools.store import events
 from registry_tools.texts.day_text import DayText
 from registry_tools.texts.rows import KeptText
@@ -48,7 +48,7 @@ class OlderFound(Found):
             return JOURNAL_FIRST
         before = [own for own in self.changed if own < date]
         if date in self.changed or not before:
-            return FILES_FIRST if date in self.changed else settle_again()
+            return FILES_FIRST if date in self.changed else close_again()
         return f"mend the files of {max(before)} first, and audit again"
 
     def add(self, *faults: FileFault | None, mend: str = "") -> None:

@@ -31,7 +31,7 @@ FILE_FIRST = "put the file back from a copy first, and audit again"
 Filed = tuple[Event, DayText, Report]
 
 
-def settle_again() -> str:
+def close_again() -> str:
     """How a day is settled once more that is not what it must be."""
     way = f"{voice.command('undo')} takes the days back to this one, to be closed again"
     return f"{way}; if released, a later day corrects it"
@@ -60,7 +60,7 @@ class Found:
 
     def mending(self, _date: datetime.date) -> str:
         """How a difference of a day is mended."""
-        return settle_again() if self.has_events else FILE_FIRST
+        return close_again() if self.has_events else FILE_FIRST
 
     def given(self, event: Event, _day: DayText) -> "Given":
         """What was handed in for a day."""
