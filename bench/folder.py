@@ -5,10 +5,11 @@ usage: folder.py FOLDER [--days N] [--accounts N] [--instructions N] [--four-eye
 
 The first day is made by `./day init` and `./day close --second`. Each later one is settled by the second answer, which
 asks for the accounts that the day touches alone; all other blocks go on as they are. Its texts, events and rows of the
-daybook are kept as `close` keeps them, but packed less, and without looking at everything. So `./day audit --second` must find no difference in the folder. The instructions are transfers, some of
-which are refused, surrenders, emissions and additions to trusted lists; nothing waits behind a day. The same arguments
-always give the same days. A folder that is there goes on where it ends. With --four-eyes `office.ini` names three
-people, of whom one handed in each file, another one approved it and closed the day, and a third one approved that.
+daybook are kept as `close` keeps them, but packed less, and without looking at everything. So `./day audit --second`
+must find no difference in the folder. The instructions are transfers, some of which are refused, surrenders, emissions
+and additions to trusted lists; nothing waits behind a day. The same arguments always give the same days. A folder that
+is there goes on where it ends. With --four-eyes `office.ini` names three people, of whom one handed in each file,
+another one approved it and closed the day, and a third one approved that.
 """
 import argparse
 import contextlib

@@ -305,7 +305,8 @@ class Correction:
         days = []
         for before, after in zip(self.before, settled):
             notes = [note for note in after.composed.notes if note.startswith(LOOK)]
-            days.append((before.date, [*differing.all_differences((before.day, before.report), (after.day, after.report)), *notes]))
+            others = differing.all_differences((before.day, before.report), (after.day, after.report))
+            days.append((before.date, [*others, *notes]))
         return Shown(days, [*dict.fromkeys(self.notes)])
 
     # What it would make of the numbers of records.
