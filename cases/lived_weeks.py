@@ -54,11 +54,11 @@ def week_fault(day: Path, who: Somebody, engine: str) -> object:
     if f"{engine} {VERSION}".encode() not in told[0]:
         return f"status tells another engine than {engine}: {told}"
     for words in (["audit"], ["verify", "--program", "--day", LAST], ["find", "--refused"], ["month", "m.html"],
-                  ["page", "--day", LAST, "pages"], ["send", "letters"], ["db", "all.db"], ["due"]):  # fmt: skip
+                  ["page", "--day", LAST, "pages"], ["send", "letters"], ["db", "all.db"], ["due"],
+                  ["backup", "copy.sqlite"], ["unpack", "plain", "--day", LAST]):  # fmt: skip
         said = who.run(day, *words, *own)
         if said[2] not in (0, 1) or b"./day" in said[0] + said[1] or b"Traceback" in said[1]:
             return f"{words}: {said}"
-    report = who.folder / "office/days" / LAST
-    wanted = (WEEK / "friday-report.csv").read_bytes()
-    found = answer_of(["gzip", "-dc", report / "report.csv.gz"])[0] if report.exists() else b""
-    return None if found == wanted or found[:40] == wanted[:40] else f"another report: {found[:200]!r}"
+    report = who.folder / "plain" / LAST / "report.csv"
+    found, wanted = report.read_bytes(), (WEEK / "friday-report.csv").read_bytes()
+    return None if found[:40] == wanted[:40] else f"another report: {found[:200]!r}"
