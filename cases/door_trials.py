@@ -6,6 +6,7 @@ import json
 import os
 import re
 import signal
+import socket
 import sqlite3
 import subprocess
 import sys
@@ -44,6 +45,16 @@ own.endheaders(body.encode('latin-1'))
 there = own.getresponse()
 print(json.dumps([there.status, there.getheaders(), there.read().decode('utf-8', 'replace')]))
 """
+# The same, of bytes as they are: how the answer begins.
+SAY = """
+import socket, sys
+own = socket.socket(socket.AF_UNIX)
+own.settimeout(60)
+own.connect(sys.argv[1])
+own.sendall(sys.stdin.buffer.read())
+own.shutdown(socket.SHUT_WR)
+print(own.recv(99).decode('latin-1'))
+"""
 ROW = "do,2025-09-23,5101,5102,transfer,100210,300118,general,{}\n"
 
 
@@ -76,6 +87,17 @@ class Visitor:
                 self.cookies[cookie] = value
                 self.secrets.append(value)
         return Answer(status, message(there), text)
+
+    def says(self, *lines: str, body: bytes = b"") -> int:
+        """The status that a request gets which has these lines as its head."""
+        own = [*lines, *(f"{name}: {word}" for name, word in self.headers.items())]
+        own.append("Cookie: " + "; ".join(f"{name}={word}" for name, word in self.cookies.items()))
+        said = subprocess.run(
+            ["setpriv", f"--reuid={self.login.user}", f"--regid={self.login.group}", "--clear-groups", sys.executable,
+             "-I", "-c", SAY, self.path], input="\r\n".join([*own, "", ""]).encode("latin-1") + body,
+            capture_output=True, timeout=MOST_SECONDS, check=True, cwd="/",
+        )  # fmt: skip
+        return int(said.stdout.split()[1])
 
     def get(self, where: str, *headers: tuple[str, str]) -> Answer:
         return self.ask("GET", where, b"", headers)
@@ -226,6 +248,8 @@ def all_trials(work: Path) -> Told:
             yield from link_of_others_trials(path, anna, bert)
             yield from right_trials(path, office, anna, looks)
             yield from proxy_trials(path, office, anna, bert, proxy, stranger)
+            yield from odd_trials(path, anna, bert, proxy, desk)
+            yield from in_its_place_trials(anna, work)
             yield from two_trials(path, office, anna, bert, proxy)
             yield from end_trials(path, office, anna, bert, desk)
             yield from many_trials(path, office, [anna, bert, anna], desk)
@@ -403,6 +427,55 @@ def proxy_trials(path: Path, office: Path, anna: Login, bert: Login, proxy: Logi
     yield "the folder keeps both", differs((what, login.partition(":")[2], who), wanted) and told.text[-900:]
     at_links = Visitor(proxy, Path(f"{path}.link"), **{HEADER: anna.name})
     yield "no link through a proxy", at_links.ask("POST", "/link").wrong(404)
+
+
+def odd_trials(path: Path, anna: Login, bert: Login, proxy: Login, desk: SocketDesk) -> Told:
+    """Requests that one server reads in another way than the next one."""
+    own, theirs, host = Visitor(anna, path).came_in(), Visitor(proxy, path), "Host: localhost"
+    post, name = ["POST /hand-in/look HTTP/1.1", host], f"X-Remote-User: {bert.name}"
+    for what, length in (
+        ("no length", []), ("pieces", ["Transfer-Encoding: chunked"]), ("PIECES", ["Transfer-Encoding: CHUNKED"]),
+    ):  # fmt: skip
+        kind, body = form_of(own.get("/hand-in").fields("/hand-in/look"), [("a.csv", b"x")])
+        chunks = f"{len(body):x}\r\n".encode() + body + b"\r\n0\r\n\r\n" if length else body
+        yield f"a body of {what}", differs(own.says(*post, *length, f"Content-Type: {kind}", body=chunks), 411)
+    for what, lines in (
+        ("with an underscore", [name.replace("-", "_")]), ("with a blank that is none", [name.replace(": ", ": \xa0")]),
+        ("with a mark behind it", [f"{name}\x1f"]), ("in capital letters", [name.upper()]),
+    ):  # fmt: skip
+        status = theirs.says("GET / HTTP/1.1", host, *lines)
+        yield f"a name of a proxy {what}", None if status in (400, 403) else status
+    yield "a place of the server that a browser says", differs(own.says("GET / HTTP/1.1", host, "SCRIPT_NAME: /x"), 400)
+    yield "nothing of it ends in a traceback", "Traceback" in desk.said() and desk.said()[-900:]
+
+
+def in_its_place_trials(anna: Login, place: Path) -> Told:
+    """Something else than a desk listens where somebody asks for a link."""
+    for what, answer, wanted in (
+        ("half an answer", b"x" * 22, "is no desk"), ("nothing", b"", "is no desk"),
+        ("marks for a terminal", b"x" * 22 + b"\n\x1b[2J\n", "is no desk"),
+        ("a long one", b"y" * 9_000_000, "is no desk"), ("no answer", None, "no desk answers there"),
+    ):  # fmt: skip
+        path = place / "other.sock.link"
+        path.unlink(missing_ok=True)
+        with socket.socket(socket.AF_UNIX) as listener:
+            listener.bind(str(path))
+            path.chmod(0o666)
+            listener.listen()
+            thread = threading.Thread(target=answer_once, args=(listener, answer))
+            thread.start()
+            status, said = anna.day("link", "--socket", place / "other.sock")
+            thread.join()
+        is_so = status == 2 and wanted in said and "\x1b" not in said and len(said) < 999
+        yield f"in place of a desk, {what}", None if is_so else (status, said[-900:])
+
+
+def answer_once(listener: socket.socket, answer: bytes | None) -> None:
+    """Answers one request, by these bytes."""
+    with listener.accept()[0] as own, contextlib.suppress(OSError):
+        own.recv(1 << 16)
+        head = b"\x1b[2J" if answer is None else b"HTTP/1.1 200 OK\r\nContent-Length: %d" % len(answer)
+        own.sendall(head + b"\r\n\r\n" + (answer or b""))
 
 
 def two_trials(path: Path, office: Path, anna: Login, bert: Login, proxy: Login) -> Told:

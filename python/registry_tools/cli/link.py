@@ -11,9 +11,10 @@ The port is open to everybody on that machine, and the link is not: so it is a l
 import argparse
 import http.client
 import os
+import re
 import socket
 
-from registry_tools.errors import WordsFault
+from registry_tools.errors import WordsFault, shown
 
 EXAMPLE = "./day link --socket /run/registry/desk.sock"
 # The variable that names the socket for whoever names none; and the port that ssh leads to it.
@@ -21,6 +22,11 @@ VARIABLE, PORT = "REGISTRY_DESK", 8424
 # Behind the path of a socket, the one where links are made.
 LINKS = ".link"
 MOST_SECONDS = 30
+# What a desk answers: a key, and until when it counts; or how many links have ended.
+ANSWERS = {
+    "/link": re.compile(r"([\w-]{22})\n([0-9-]{10} [0-9:]{5})\n", re.ASCII), "/end": re.compile(r"([0-9]{1,9})\n"),
+}  # fmt: skip
+MOST_BYTES = 1 << 10
 
 
 class Connection(http.client.HTTPConnection):
@@ -49,26 +55,28 @@ def run(said: argparse.Namespace) -> int:
     path = said.socket or os.environ.get(VARIABLE)
     if not path:
         raise WordsFault(f"name the socket of the desk: --socket PATH, or {VARIABLE}")
-    answer = ask(path, "/end" if said.end else "/link").split("\n")
+    answer = ask(path, "/end" if said.end else "/link")
     if said.end:
-        print(f"links that have ended: {answer[0]}")
+        print(f"links that have ended: {answer[1]}")
         return 0
-    key, until, *_ = answer
+    key, until = answer.groups()
     print(f"http://127.0.0.1:{said.port}/?key={key}\nit counts for you alone, until {until}; --end ends it before")
     return 0
 
 
-def ask(path: str, what: str) -> str:
-    """What the desk answers at the socket of links."""
+def ask(path: str, what: str) -> re.Match[str]:
+    """What the desk answers at the socket of links. (Whoever listens there in its place has nothing else printed.)"""
     own = Connection(f"{path}{LINKS}")
     try:
         own.request("POST", what, headers={"Content-Length": "0"})
         answer = own.getresponse()
-        text = answer.read().decode("utf-8", "replace")
+        found = ANSWERS[what].fullmatch(answer.read(MOST_BYTES).decode("utf-8", "replace"))
     except (OSError, http.client.HTTPException) as error:
-        raise WordsFault(f"--socket {path}: no desk answers there: {error}") from None
+        raise WordsFault(f"--socket {path}: no desk answers there: {shown(str(error))}") from None
     finally:
         own.close()
     if answer.status != http.client.OK:
         raise WordsFault(f"--socket {path}: the desk does not know this login, or answers otherwise: {answer.status}")
-    return text
+    if found is None:
+        raise WordsFault(f"--socket {path}: what answers there is no desk")
+    return found

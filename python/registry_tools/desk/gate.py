@@ -102,8 +102,10 @@ def let_in_by(door: Door, own: Head) -> Any:
         refusal = refusal or Refusal(403, NO_LINK, "it did not come by a link that counts")
     request = flask.request
     if own.method == "POST":
+        # (a body that goes on up to the end of the connection says no length either)
+        length, coding = request.content_length, own.of("Transfer-Encoding")
         refusal = refusal or heads.refusal_of_body(
-            own, request.content_length or 0, "chunked" in own.of("Transfer-Encoding"), limits.MOST_BYTES, MOST_FORM
+            own, length or 0, length is None or bool(coding), limits.MOST_BYTES, MOST_FORM
         )
     refusal = refusal or refusal_of_form()
     return refuse(own, refusal) if refusal else None

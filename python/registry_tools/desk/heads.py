@@ -42,8 +42,8 @@ class Head:
     peer: str
 
     def of(self, name: str) -> str:
-        """What a header says; nothing, if it is not there."""
-        return self.headers.get(name.lower(), "").strip()
+        """What a header says; nothing, if it is not there. (Other blanks than these are part of it.)"""
+        return self.headers.get(name.lower(), "").strip(" \t")
 
 
 @dataclass(frozen=True)

@@ -7,7 +7,10 @@ from collections import deque
 from collections.abc import Callable
 from typing import Any
 
+from gunicorn.http.errors import InvalidHeaderName
 from gunicorn.workers.gthread import ThreadWorker
+
+from registry_tools.desk import log
 
 # A connection on which nothing comes for so many seconds is closed.
 SILENT = 60
@@ -33,6 +36,15 @@ class Worker(ThreadWorker):
     def accept(self, server: Any, listener: Any) -> None:
         """Takes a connection, if it may be."""
         super().accept(server, Listener(listener, self.wsgi.config[ASKS], self.refused))
+
+    def handle_request(self, req: Any, conn: Any) -> Any:
+        """Answers a request. A header with `_` in its name is refused: it would pass for the one with `-`, which a
+        proxy sets or takes away, and SCRIPT_NAME for what a server says."""
+        strange = next((name for name, _ in req.headers if "_" in name), None)
+        if strange is not None:
+            log.refused("a connection", req.method, req.path, 400, f"the header {strange}, with _ for -")
+            raise InvalidHeaderName(strange)
+        return super().handle_request(req, conn)
 
 
 class Listener:
