@@ -9,7 +9,7 @@ from collections.abc import Callable, Iterator
 from dataclasses import replace
 from pathlib import Path
 
-from colleagues import ACT, MONDAY, RULES, TUESDAY, WEEK, Owned, must_get, must_run, owned
+from colleagues import ACT, MONDAY, RULES, TUESDAY, WEEK, Owned, must_get, must_run, owned, without_folder
 from harness import Said, differs
 from logins import Login, made
 from offices import FILE, JOURNAL, must_do, told, unchanged
@@ -88,6 +88,7 @@ def link_attempts(work: Path) -> Attempts:
         yield from of_others_attempts(base)
         yield from no_file_attempts(base)
         yield from answer_attempts(base, secret)
+        yield from planted_attempts(base)
 
 
 def secret_of(base: Owned) -> Path:
@@ -151,6 +152,67 @@ def answer_attempts(base: Owned, secret: Path) -> Attempts:
     base.anna.does("p, q = sys.argv[1:]\nos.symlink(q, p)", aside, secret)
     said = Said("log", WEEK / "monday-report.csv", "--to", room / "x.csv")
     yield "a link where an answer is written first", (None if said.status == 0 else said) or untouched(secret, "")
+
+
+# What SQLite does by itself with a file that somebody else packed.
+
+# A journal that names another one, behind pages of which none is put back; and rows without an end.
+ANOTHER = bytes.fromhex("d9d505f920a163d7")
+ENDLESS = """
+DROP TRIGGER texts_stay; DROP TRIGGER texts_remain; ALTER TABLE texts RENAME TO texts_before;
+CREATE VIEW texts AS WITH RECURSIVE rows (sum) AS (SELECT '' UNION ALL SELECT sum || 'x' FROM rows)
+  SELECT sum, 1 AS size, x'00' AS packed FROM rows;
+"""
+
+
+def journal_of(file: Path, named: Path) -> bytes:
+    """A journal of a file as a change of several files leaves it: it names `named`, which SQLite takes away."""
+    size, name = int.from_bytes(file.read_bytes()[16:18], "big"), str(named).encode()
+    head = [0, 1, file.stat().st_size // size, 512, size]
+    page, length, check = (own.to_bytes(4, "big") for own in ((1 << 30) // size + 1, len(name), sum(name)))
+    begin = ANOTHER + b"".join(own.to_bytes(4, "big") for own in head)
+    return begin.ljust(512, b"\0") + page + name + length + check + ANOTHER
+
+
+def planted_attempts(base: Owned) -> Attempts:
+    """A folder that somebody else packed, and bert unpacked: what lies beside its file, and what is in it."""
+    write = "import shutil\np, q = sys.argv[1:]\nshutil.copyfile(q, p)\nos.chmod(p, 0o600)"
+    for word in ("status", "audit"):
+        folder, kept, made = base.copy("packed"), base.path.parent / "kept", base.work / "made"
+        base.bert.writes(kept, "of bert\n")
+        made.write_bytes(journal_of(folder.path / FILE, kept))
+        base.bert.does(write, folder.path / JOURNAL, made)
+        has = [f"{folder.path / JOURNAL}: found a journal that names another file"]
+        yield f"a journal that names another file, {word}", folder.gets(base.bert, 3, has, word)
+        yield f"what it names is there, {word}", None if kept.exists() else "it is gone"
+    for what, code in (
+        ("no plain file", "os.mkfifo(sys.argv[1], 0o600)"),
+        ("a file that has another name elsewhere", "os.link(sys.argv[2], sys.argv[1])"),
+    ):  # fmt: skip
+        folder = base.copy("packed")
+        base.bert.does(code, folder.path / JOURNAL, kept)
+        yield f"{what} as a journal", folder.gets(base.bert, 3, [f"{JOURNAL}: found {what}"], "status")
+    for word in ("status", "audit"):
+        folder = base.copy("packed")
+        change = "import sqlite3\nsqlite3.connect(sys.argv[1]).executescript(sys.argv[2])"
+        base.bert.does(change, folder.path / FILE, ENDLESS)
+        has = ["table texts: found a view; expected a table"]
+        yield f"a table without an end, {word}", folder.gets(base.bert, 3, has, word)
+    yield from beside_attempts(base)
+
+
+def beside_attempts(base: Owned) -> Attempts:
+    """A copy is made anew where others may make files: what lies beside the one before is not read."""
+    room, kept = base.work / "for-all", base.path.parent / "kept"
+    for name, word in (("copy-2.sqlite", "backup"), ("days-2.sqlite", "db")):
+        path = room / name
+        must_get(without_folder(base.bert.day(word, path, *base.own)))
+        made = base.work / "made"
+        made.write_bytes(journal_of(path, kept))
+        base.anna.does("import shutil\nshutil.copyfile(*sys.argv[:0:-1])", f"{path}-journal", made)
+        has = [f"{path}-journal: found a file or folder of another login"]
+        yield f"a journal of anna's beside what {word} made", base.gets(base.bert, 3, has, word, path)
+        yield f"what it names is there, {word}", None if kept.exists() else "it is gone"
 
 
 # A program of their own.

@@ -44,6 +44,7 @@ def audit(path: Path, asked: Audit) -> Found:
     """Looks at a folder. Raises FileFault if it can't be looked at, or if it is that of another login."""
     named, place = settings.read(path / SETTINGS), file.look_at(path)
     with file.telling(place), contextlib.closing(file.connected(place)) as db:
+        file.must_be_tables(db, place)
         store = Store(place, db, Texts(db, place), Events(place, []))
         found = Found(Office(path, named, store), lambda event, column: past.kept(store, event, column))
         found.add(*checks.faults_of(db, place))

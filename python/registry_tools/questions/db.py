@@ -11,7 +11,7 @@ from registry_tools import opening, steps, voice
 from registry_tools.errors import FileFault, of_file
 from registry_tools.output import name_beside, remove_left
 from registry_tools.questions.days import Days
-from registry_tools.store import daybook
+from registry_tools.store import daybook, file
 
 DAYS_IN = "SELECT date, day_sum, report_sum FROM days ORDER BY date"
 HAS_DAYS = "SELECT 1 FROM sqlite_master WHERE type = 'table' AND name = 'days'"
@@ -81,6 +81,7 @@ def days_there(path: str) -> list[tuple[str, str, str]]:
     """The days that a database has, with the sums of their texts, if it is there."""
     if not Path(path).exists():
         return []
+    file.look_beside(Path(os.path.realpath(path)))
     with contextlib.closing(sqlite3.connect(path)) as database:
         if not database.execute(HAS_DAYS).fetchone():
             found = f"a file that {voice.command('db')} has not made"

@@ -39,7 +39,9 @@ def unreadable(path: Path, error: object) -> FileFault:
 
 def of_head(db: sqlite3.Connection, path: Path) -> Faults:
     """What the file says it is."""
-    for name, expected in (("application_id", file.APPLICATION), ("user_version", file.LAYOUT)):
+    # (with another journal, a copy of the file alone would lack what was done last)
+    own = ("application_id", file.APPLICATION), ("user_version", file.LAYOUT), ("journal_mode", "delete")
+    for name, expected in own:
         there = db.execute(f"PRAGMA {name}").fetchone()[0]
         if there != expected:
             yield FileFault(path, 0, name, there, f"{expected}: {put_back()}")

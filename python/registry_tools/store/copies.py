@@ -66,6 +66,7 @@ def copy_at(place: Path, path: str) -> Copy:
 
 def must_be_earlier(store: Store, path: str, real: Path) -> None:
     """Ends the command if what has a name is no earlier state of this folder: then it would be lost."""
+    file.look_beside(real)
     with contextlib.suppress(sqlite3.Error), contextlib.closing(file.connected(real)) as db:
         line = file.last_line(db)
         if line in {event.line for event in store.events.all}:

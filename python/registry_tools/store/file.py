@@ -6,6 +6,7 @@ has made. (A link on the way to FOLDER is followed: whoever names the folder cho
 """
 import contextlib
 import os
+import re
 import sqlite3
 import stat
 from collections.abc import Iterator
@@ -30,6 +31,8 @@ OTHERS_WRITE = stat.S_IWGRP | stat.S_IWOTH
 MOST_WAIT, SHORT_WAIT = 60_000, 200
 # What an open file keeps in memory, in KiB.
 CACHE = 64 * 1024
+# So ends a journal of SQLite that names another one. (No command changes two files in one step.)
+NAMES_ANOTHER = bytes.fromhex("d9d505f920a163d7")
 # How SQLite says that it can't read a file. (Its sentences may have bytes of the file in them.)
 UNREADABLE = (sqlite3.DatabaseError, UnicodeError)
 BY_OTHERS = "the file of one login: who else works with the folder comes by its desk"
@@ -199,10 +202,27 @@ def look_at(folder: Path) -> Path:
         must_be_own(path, about)
     finally:
         os.close(file)
-    for end in ("-journal", "-wal", "-shm"):
-        if os.path.islink(f"{path}{end}"):
-            raise LinkFault(f"{path}{end}")
+    look_beside(path)
     return path
+
+
+def look_beside(path: Path) -> None:
+    """Ends the command if what SQLite would read beside a file is no plain file of this login, or names another file:
+    SQLite would take that one away."""
+    for name in (f"{path}{end}" for end in ("-journal", "-wal", "-shm")):
+        try:
+            about = os.lstat(name)
+        except FileNotFoundError:
+            continue
+        if not stat.S_ISREG(about.st_mode):
+            raise LinkFault(name, "a link" if stat.S_ISLNK(about.st_mode) else "no plain file")
+        if about.st_nlink > 1:
+            raise LinkFault(name, "a file that has another name elsewhere")
+        must_be_own(name, about)
+    with contextlib.suppress(FileNotFoundError), open(f"{path}-journal", "rb") as journal:
+        journal.seek(max(os.fstat(journal.fileno()).st_size - len(NAMES_ANOTHER), 0))
+        if journal.read() == NAMES_ANOTHER:
+            raise FileFault(f"{path}-journal", 0, "", "a journal that names another file", "that of one file alone")
 
 
 def connected(path: Path) -> sqlite3.Connection:
@@ -225,6 +245,7 @@ def opened(folder: Path) -> Store:
         db = connected(path)
         try:
             must_be_one(db, path)
+            must_be_tables(db, path)
             return Store(path, db, Texts(db, path), events.read(db, path))
         except BaseException:
             db.close()
@@ -239,6 +260,15 @@ def must_be_one(db: sqlite3.Connection, path: Path) -> None:
         raise FileFault(path, 0, "application_id", application, f"{APPLICATION}, that of a folder of days")
     if layout != LAYOUT:
         raise FileFault(path, 0, "user_version", layout, f"{LAYOUT}: another version of these tools made it")
+
+
+def must_be_tables(db: sqlite3.Connection, path: Path) -> None:
+    """Ends the command if a view has the name of a table: what it asks may have no end."""
+    for name in re.findall(r"CREATE TABLE (\w+)", schema()):
+        # (of a file that can't be read others tell more)
+        with contextlib.suppress(*UNREADABLE):
+            if db.execute("SELECT 1 FROM sqlite_master WHERE type = 'view' AND name = ?", (name,)).fetchone():
+                raise FileFault(path, 0, f"table {name}", "a view", "a table: somebody changed the file by other ways")
 
 
 def schema() -> str:
