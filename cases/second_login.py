@@ -86,6 +86,9 @@ def settings_trials(work: Path) -> Iterator[Told]:
         ("[people]\nanna = Anna: hand in, sell\n", "anna: found 'Anna: hand in, sell'"),
         ("[people]\nanna = : all\n", "anna: found ': all'"), ("[people]\nanna = Anna:\n", "anna: found 'Anna:'"),
         ("[people]\nanna = Anna: all\nanna = Anna: look\n", "these are no settings"),
+        # (else anna would have the rights of the line below hers)
+        ("[people]\nanna = Anna: look\n  bert = Bert: all\n", "anna: found 'Anna: look"),
+        ("[people]\nanna = Anna \u202eB: all\n", "anna: found 'Anna "),
         ("[four eyes]\ncommands = close, sell\n", "[four eyes]: found 'close, sell'"),
         ("[four eyes]\ncommands =\n", "[four eyes]: found nothing"), ("[four eyes]\ncommand = x\n", "found 'command'"),
         ("[poeple]\nanna = Anna: all\n", "section: found 'poeple'; expected one of [office], [due], [anchor], [peo"),

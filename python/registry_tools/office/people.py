@@ -19,7 +19,7 @@ from dataclasses import dataclass, field
 from pathlib import Path
 
 from registry_tools import voice
-from registry_tools.errors import FileFault, must_be_known, RightsFault, shown, WordsFault
+from registry_tools.errors import FileFault, must_be_known, RightsFault, shown, visible, WordsFault
 from registry_tools.layout import SETTINGS
 from registry_tools.store.texts import sum_of
 
@@ -178,8 +178,11 @@ def person_named(path: Path, login: str, words: str) -> Person:
     """A person, by a line of the settings."""
     name, colon, rights = (part.strip() for part in words.rpartition(":"))
     said = frozenset(own.strip() for own in rights.split(","))
-    if not colon or not name or not said <= {*RIGHTS, ALL} or SPEAKS_FOR in login:
-        raise FileFault(path, 0, login, shown(words), f"NAME: and behind it some of {', '.join(RIGHTS)}, or {ALL}")
+    # (a line that is indented goes on with the one above it: the rights of one would be those of another)
+    is_line = all(letter.isprintable() or "\ud800" <= letter <= "\udfff" for letter in login + name)
+    if not colon or not name or not said <= {*RIGHTS, ALL} or SPEAKS_FOR in login or not is_line:
+        expected = f"NAME: and behind it some of {', '.join(RIGHTS)}, or {ALL}, in a line that begins with the login"
+        raise FileFault(path, 0, "".join(map(visible, login)), shown(words), expected)
     return Person(login, name, (said - {ALL}) | OF_ALL if ALL in said else said)
 
 
