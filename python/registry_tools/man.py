@@ -91,7 +91,7 @@ def page_of_day() -> Iterator[str]:
     yield ".SH COMMANDS"
     for command, what in parsers.descriptions().items():
         called = f".BR {as_roff(f'{plain}-{command}')} (1)" if is_installed() else f".B {as_roff(command)}"
-        yield f".TP\n{called}\n{filled(streams.by_name(what))}"
+        yield f".TP\n{called}\n{filled(streams.in_help(what))}"
     if not is_installed():
         for command, parser in parsers.all_of_day().items():
             yield f".SH {as_roff(command.upper())}\n{as_it_stands(parser.format_help().rstrip())}"
@@ -103,18 +103,18 @@ def page_of_day() -> Iterator[str]:
 def page_of_command(command: str) -> Iterator[str]:
     """The page of one command of ./day."""
     parser, plain = parsers.all_of_day()[command], plain_name()
-    what = streams.by_name(parsers.descriptions()[command].partition(";")[0])
+    what = streams.in_help(parsers.descriptions()[command].partition(";")[0])
     yield head(f"{plain}-{command}", 1, "The office round the program", what)
-    usage = streams.by_name(re.sub("(?m)^(usage: | {7})", "", parser.format_usage().rstrip()))
+    usage = streams.in_help(re.sub("(?m)^(usage: | {7})", "", parser.format_usage().rstrip()))
     yield f".SH SYNOPSIS\n{as_it_stands(usage)}"
-    told = streams.by_name(parser.description or "").strip().split("\n\n")
+    told = streams.in_help(parser.description or "").strip().split("\n\n")
     yield ".SH DESCRIPTION"
     yield "\n.PP\n".join(block_of(each) for each in told if not each.startswith(STATUS))
     yield ".SH OPTIONS"
     yield from options_of(parser)
     own = [f"{each.removeprefix(STATUS)}\n" for each in told if each.startswith(STATUS)]
     yield f".SH EXIT STATUS\n{''.join(map(filled, own)) or as_it_stands(parsers.STATUSES)}"
-    examples = streams.by_name(parser.epilog or "").removeprefix("example:\n")
+    examples = streams.in_help(parser.epilog or "").removeprefix("example:\n")
     yield f".SH EXAMPLES\n{as_it_stands(textwrap.dedent(examples).rstrip())}"
     pages = [("registry", 1), ("registry-day-text", 5)] if is_installed() else []
     yield see_also((plain, 1), *pages)
@@ -137,7 +137,7 @@ def options_of(parser: argparse.ArgumentParser) -> Iterator[str]:
     for action in parser._actions:  # noqa: SLF001
         if action.help != argparse.SUPPRESS:
             called = formatter._format_action_invocation(action)  # noqa: SLF001
-            what = streams.by_name(formatter._expand_help(action)) if action.help else ""  # noqa: SLF001
+            what = streams.in_help(formatter._expand_help(action)) if action.help else ""  # noqa: SLF001
             yield f".TP\n.B {as_roff(called)}\n{filled(what)}"
 
 
