@@ -190,6 +190,13 @@ def trials(made: Path, sources: Path, room: Path, is_built: bool) -> Iterator[tu
         yield name, partial(tried, trial)
 
 
+def built(is_built: bool) -> object:
+    """Leaves a trial out that asks the library, where its stand-in could not be compiled."""
+    if not is_built:
+        raise LeftOut("there is no C compiler, so the library is none")
+    return None
+
+
 def tried(trial: Trial) -> object:
     """What is wrong, also if something that has to be there is not."""
     try:
@@ -214,9 +221,11 @@ def own_trials(made: Path, sources: Path, room: Path, is_built: bool) -> Iterato
     yield "a bill of materials", lambda: bill_fault(folder())
     yield "completion", lambda: completion_fault(folder())
     day = "bin/registry-day"
-    yield "a week in an archive", lambda: week_fault(folder() / day, Somebody(room / "unpacked-week"), "program")
+    yield "a week in an archive", lambda: built(is_built) or week_fault(
+        folder() / day, Somebody(room / "unpacked-week"), "program"
+    )
     yield from changed_archives.trials(folder, made, room)
-    yield "installed below a folder", lambda: install_fault(folder(), room / "installed")
+    yield "installed below a folder", lambda: built(is_built) or install_fault(folder(), room / "installed")
     yield "the commands by pip", lambda: commands_fault(new_room(room / "tools", *folder().glob("python/registry_t*")))
     yield "the top of the repository by pip", lambda: commands_fault(new_room(room / "top", sources), "close")
     yield "the top of the repository, edited where it is", lambda: editable_fault(room / "edited", sources)
