@@ -390,6 +390,8 @@ def outcome_attempts(work: Path) -> Attempts:
         typed = {**fields, "why": "is asked for, and waits for", "once": os.urandom(8).hex(), "day": "2025-09-21"}
         told = browser.job(browser.post("/release/yes", typed))
         yield "a reason as what the desk looks for", "It is asked for, and waits" in told.text
+        named = {**fields, "kind": "user", "number": "1", "name": "a\0b", "why": "x", "once": os.urandom(8).hex()}
+        yield "a name with a NUL", browser.post("/names/give", named).wrong(400)
 
 
 PARTS = (

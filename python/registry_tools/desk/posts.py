@@ -65,7 +65,9 @@ def do_with_why(served: Served, command: str, *more: str) -> Any:
 
 
 def begin(served: Served, command: str, *words: str, seen: str = "", makes: bool = False) -> Any:
-    """Has a command work, and goes to its answer."""
+    """Has a command work, and goes to its answer. Raises WordsFault if the form has what no command can be told."""
+    if any("\0" in word for word in words):
+        raise WordsFault(NOT_WHOLE)
     job = served.jobs.start(once(), command, [*words], seen, way_back(), makes)
     log.begun(command, gate.known_name(served), gate.head().peer)
     return flask.redirect(f"/jobs/{job.number}", 303)
