@@ -433,9 +433,10 @@ def odd_trials(path: Path, anna: Login, bert: Login, proxy: Login, desk: SocketD
     """Requests that one server reads in another way than the next one."""
     own, theirs, host = Visitor(anna, path).came_in(), Visitor(proxy, path), "Host: localhost"
     post, name = ["POST /hand-in/look HTTP/1.1", host], f"X-Remote-User: {bert.name}"
-    for what, length in (
-        ("no length", []), ("pieces", ["Transfer-Encoding: chunked"]), ("PIECES", ["Transfer-Encoding: CHUNKED"]),
-    ):  # fmt: skip
+    lengths: dict[str, list[str]] = {
+        "no length": [], "pieces": ["Transfer-Encoding: chunked"], "PIECES": ["Transfer-Encoding: CHUNKED"],
+    }  # fmt: skip
+    for what, length in lengths.items():
         kind, body = form_of(own.get("/hand-in").fields("/hand-in/look"), [("a.csv", b"x")])
         chunks = f"{len(body):x}\r\n".encode() + body + b"\r\n0\r\n\r\n" if length else body
         yield f"a body of {what}", differs(own.says(*post, *length, f"Content-Type: {kind}", body=chunks), 411)
