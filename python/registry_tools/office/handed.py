@@ -262,28 +262,20 @@ def behind(store: Store, base: int) -> HandedIn:
     last = next((event for event in reversed(given) if event.kind == FIRST), None)
     parts = [part_by(store, event) for event in given if event.kind != FIRST or event is last]
     taken = [Taken(event.at, event.who, event.start, event.why, event.login) for event in own if event.what == TAKEN]
-    there, by = HandedIn(store, parts, taken), approvals_by(store, own[-1].id if own else base)
-    counting = (part for part in parts if part.origin.id in by and there.left_of(part))
-    there.approved = [approved_of(by[part.origin.id], part) for part in counting]
+    there, until = HandedIn(store, parts, taken), own[-1].id if own else base
+    for part in parts:
+        by = approval_of(store, part, until)
+        if by and there.left_of(part):
+            there.approved.append(Approved(by.at, by.who, part.start, by.login))
     return there
 
 
-def approvals_by(store: Store, until: int) -> dict[int, Event]:
-    """The last approval of each thing that was handed in, up to an event, by the event that handed it in first; of what
-    is another thing since, because some of it was taken back, none. (A day that is corrected is closed once more with
-    what was approved before.)"""
-    there, by = store.events, dict[int, Event]()
-    for event in there.all[:until]:
-        if event.what == APPROVED and event.of is not None:
-            by[there.of_id(event.of).origin] = event
-        elif event.what == TAKEN and event.of is not None:
-            by.pop(there.of_id(event.of).origin, None)
-    return by
-
-
-def approved_of(event: Event, part: Part) -> Approved:
-    """Who approved a part."""
-    return Approved(event.at, event.who, part.start, event.login)
+def approval_of(store: Store, part: Part, until: int) -> Event | None:
+    """The last approval of a part, up to an event; of what is another thing since, because some of it was taken back,
+    none. (A day that is corrected is closed once more with what was approved before.)"""
+    there = store.events.looked_at.get(part.origin.id, [])
+    last = next((event for event in reversed(there) if event.id <= until), None)
+    return last if last and last.what == APPROVED else None
 
 
 def part_by(store: Store, event: Event) -> Part:

@@ -4,6 +4,7 @@ kept the line of one sees later whether the folder has grown from there.
 The line of an event is the SHA-256 of `json_array(before, what, at, ..)`, as SQLite writes it: of all columns but `id`
 and `line`. schema.sql says what each kind of event has.
 """
+import bisect
 import datetime
 import functools
 import json
@@ -80,8 +81,14 @@ class Event:
 
     def own_line(self) -> str:
         """The sum of what it says with the line before it."""
-        text = json.dumps(self.values, ensure_ascii=False, separators=(",", ":"))
-        return sum_of(text.encode("utf-8", "surrogateescape"))
+        return line_of(self.values)
+
+
+def line_of(values: tuple[object, ...]) -> str:
+    """The line of an event, by all that its columns have between `id` and `line`. Raises TypeError or ValueError if
+    they can't have that."""
+    text = json.dumps(values, ensure_ascii=False, separators=(",", ":"))
+    return sum_of(text.encode("utf-8", "surrogateescape"))
 
 
 # The columns between `before` and `line`.
@@ -125,16 +132,26 @@ class Events:
         self.all: list[Event] = []
         # The days that count, by rising date.
         self.days: list[Event] = []
+        # The last event that filed or undid a day; 0 before the first one. And where all of them stand.
+        self.base = 0
+        self.changing: list[int] = []
+        # What was approved or taken back of what was handed in, by the event that handed it in first.
+        self.looked_at: dict[int, list[Event]] = {}
         for event in there:
             self.append(event)
 
     def append(self, event: Event) -> None:
         """Takes up an event behind the others."""
-        self.all.append(event)
+        if event.what in CHANGING:
+            self.base = event.id
+            self.changing.append(len(self.all))
         if event.what == FILED:
             self.days.append(event)
         elif event.what == UNDONE and self.days:
             self.days.pop()
+        elif event.what in (APPROVED, TAKEN) and event.of and event.of <= len(self.all):
+            self.looked_at.setdefault(self.of_id(event.of).origin, []).append(event)
+        self.all.append(event)
 
     @property
     def last_line(self) -> str:
@@ -147,20 +164,15 @@ class Events:
         return self.last_line[:HEAD_DIGITS]
 
     @property
-    def base(self) -> int:
-        """The last event that filed or undid a day; 0 before the first one."""
-        return next((event.id for event in reversed(self.all) if event.what in CHANGING), 0)
-
-    @property
     def state(self) -> str:
         """The line of the last event that changed something: what is asked for builds on it."""
         return next((event.line for event in reversed(self.all) if event.what not in ASKING), "")
 
     def since(self, base: int) -> list[Event]:
         """The events that stand behind an event that filed or undid a day, and before the next such one."""
-        start = next((place for place, event in enumerate(self.all) if event.id > base), len(self.all))
-        end = next((place for place in range(start, len(self.all)) if self.all[place].what in CHANGING), len(self.all))
-        return self.all[start:end]
+        # (events are counted from 1 on: so the number of one is the place behind it)
+        end = bisect.bisect_left(self.changing, base)
+        return self.all[base : self.changing[end] if end < len(self.changing) else len(self.all)]
 
     def of_id(self, number: int) -> Event:
         """The event with this number."""
@@ -203,7 +215,7 @@ def faults_of(db: sqlite3.Connection, events: Events) -> Iterator[FileFault]:
     for place, row in enumerate(rows, 1):
         where = f"event {row[0]}"
         try:
-            event = event_of(row)
+            event, line = event_of(row), line_of(row[1:-1])
         except (ValueError, TypeError) as error:
             yield FileFault(events.path, 0, where, shown(str(error)), f"an event: {BACK}")
             continue
@@ -212,7 +224,7 @@ def faults_of(db: sqlite3.Connection, events: Events) -> Iterator[FileFault]:
             yield FileFault(events.path, 0, where, str(event.id), expected)
         if event.before != events.last_line:
             yield FileFault(events.path, 0, f"{where}, before", shown(event.before), f"{events.last_line}: {BACK}")
-        if event.line != (line := event.own_line()):
+        if event.line != line:
             yield FileFault(events.path, 0, f"{where}, line", shown(event.line), f"{line}: {BACK}")
         wrong = does_not_follow(events, event)
         if wrong:
