@@ -13,13 +13,14 @@ import sys
 import threading
 import time
 import zlib
-from collections.abc import Iterator, Mapping, Sequence
+from collections.abc import Callable, Iterator, Mapping, Sequence
 from email.message import Message
 from http.client import HTTPMessage
 from pathlib import Path
 from typing import Any
 
 import logins
+import real_servers
 from harness import MOST_SECONDS, TOP, LeftOut, differs
 from logins import Login
 from real_desk import Answer, File, form_of
@@ -231,8 +232,8 @@ def link_trials(mock: Any) -> Told:
 # People.
 
 
-def all_trials(work: Path) -> Told:
-    """All that is tried by several logins."""
+def all_trials(work: Path, leave_out: Callable[[str, LeftOut], None]) -> Told:
+    """All that is tried by several logins. `leave_out` hears what can't be tried."""
     with logins.made("desk", "anna", "bert", "look", "www", "nobody") as people:
         owner, anna, bert, looks, proxy, stranger = people
         home, place = work / "home", work / "place"
@@ -251,6 +252,14 @@ def all_trials(work: Path) -> Told:
             yield from odd_trials(path, anna, bert, proxy, desk)
             yield from in_its_place_trials(anna, work)
             yield from two_trials(path, office, anna, bert, proxy)
+            for what, trials in (
+                ("nginx", real_servers.nginx_trials(work, path, proxy, [anna, looks, stranger])),
+                ("ssh", real_servers.ssh_trials(work, path, [anna, looks, stranger])),
+            ):  # fmt: skip
+                try:
+                    yield from trials
+                except LeftOut as why:
+                    leave_out(f"a desk behind {what}", why)
             yield from end_trials(path, office, anna, bert, desk)
             yield from many_trials(path, office, [anna, bert, anna], desk)
         finally:

@@ -13,7 +13,7 @@ DOCUMENTS = {Path(name).name: name for name in (
 )}  # fmt: skip
 PICTURES = {"page-of-an-account.png": "docs/page-of-an-account.png", "database.svg": "docs/database.svg"}
 # What is read of examples/.
-EXAMPLES = ("week", "first-transfer.csv", "morning-batch.csv")
+EXAMPLES = ("week", "desk", "first-transfer.csv", "morning-batch.csv")
 LINK = re.compile(r"(!?)\[((?:[^\[\]]|`[^`]*`)*)\]\(([^)\s]+)\)")
 # How commands of the repository are called in an installation.
 NAMES = (
