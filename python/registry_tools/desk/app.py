@@ -35,13 +35,17 @@ SECTIONS = {
 OF_TRIALS = {"/undo"}
 # What a desk that only looks has no use for.
 OF_CHANGES = {"/hand-in", "/change", "/close"}
+# As what a table is had, besides on its page.
+FILES = "<any(csv, xlsx, json):kind>"
 GET: dict[str, Callable[..., Any]] = {
     "/": pages.today, "/hand-in": pages.hand_in, "/next": pages.next_day, "/change": pages.change,
     "/close": pages.close, "/days": pages.days, "/days/<string(length=10):word>": pages.day, "/undo": pages.undo,
     "/release": pages.release, "/name": pages.name, "/names": questions.names,
     "/accounts": questions.accounts, "/accounts/<int:number>": questions.account, "/compliance": questions.compliance,
-    "/due": coming.page, "/due.<any(csv, xlsx, ics):kind>": coming.as_file,
-    "/month": questions.month_page, "/find": questions.find, "/find.<any(csv, xlsx):kind>": questions.find_file,
+    "/due": coming.page, "/due.<any(csv, xlsx, json, ics):kind>": coming.as_file,
+    "/month": questions.month_page, "/find": questions.find, f"/find.{FILES}": questions.find_file,
+    f"/accounts.{FILES}": questions.accounts_file, f"/accounts/<int:number>/history.{FILES}": questions.history_file,
+    f"/compliance.{FILES}": questions.compliance_file, f"/names.{FILES}": questions.names_file,
     "/table.<any(csv, xlsx):kind>": questions.table_file,
     "/journal": questions.journal, "/audit": questions.audit, "/send": questions.send,
     "/jobs/<number>": questions.job, "/jobs/<number>/packages.zip": questions.packages,

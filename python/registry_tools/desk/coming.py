@@ -11,12 +11,11 @@ from registry_tools import tables, voice
 from registry_tools.calendars.dates import date_of
 from registry_tools.desk import gate
 from registry_tools.desk.gate import Served
-from registry_tools.desk.questions import download, file_of
+from registry_tools.desk.questions import download, rows_file
 from registry_tools.desk.reading import Reading
 from registry_tools.desk.shown import asked, show_page
 from registry_tools.pages.html import link, tag
 from registry_tools.questions import due
-from registry_tools.sheets.writing import Written
 
 COLUMNS = ["Day", "What", "Account", "Record", "More"]
 CALENDAR = "text/calendar; charset=utf-8"
@@ -58,5 +57,4 @@ def as_file(served: Served, kind: str) -> Response:
         found, until = found_until(served.reading)
     if kind == "ics":
         return download(due.as_calendar(found, until).encode(), CALENDAR, "due.ics")
-    texts = (["" if cell is None else str(cell) for cell in own.cells()] for own in found)
-    return file_of(served, kind, Written("due", [tables.COLUMNS["due"].names, *texts]))
+    return rows_file(served, kind, "due", tables.COLUMNS["due"], [own.cells() for own in found])

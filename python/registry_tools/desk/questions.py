@@ -38,7 +38,8 @@ from registry_tools.questions.history import history
 from registry_tools.second import faults, rules
 from registry_tools.sheets import form
 from registry_tools.sheets.writing import Written, write_workbook
-from registry_tools.showing import as_csv
+from registry_tools.showing import Cell, as_csv, as_json
+from registry_tools.tables import Columns
 from registry_tools.texts.in_words import grouped
 from registry_tools.texts.labels import ACCOUNT, KINDS, USER, Labels
 from registry_tools.texts.report import LogRow
@@ -49,6 +50,8 @@ BEHIND = dict.fromkeys(("hand-in", "change", "take-back"), ("/next", "To the nex
 BEHIND["label"] = ("/names", "To the names")
 # What the dates of an address are called.
 NAMES_OF_DATES = {"from": "the first day", "to": "the last day", "deadline": "the deadline"}
+# What files tell of an account.
+OF_ACCOUNTS = tables.columns("#account kind #holder status #general #aviation")
 # What is told of an operator.
 COLUMNS = ["Account", "Holder", "Surrendered", "Emissions", "Surrendered of emissions", "Figure now", "Verdict"]
 
@@ -66,12 +69,22 @@ def account_rows(settled: Settled, word: str) -> Iterator[tuple[Any, ...]]:
         row = block.rows[0].split(",")
         holder, own = settled.names.holder(row[3]), settled.names.name_of(ACCOUNT, row[1])
         if not word or word in row[1:5] or any(word.casefold() in name.casefold() for name in (holder, own)):
-            yield int(row[1]), row[2], holder, row[4], int(row[8]), int(row[9]), own
+            yield int(row[1]), row[2], holder, row[4], int(row[8]), int(row[9]), own, int(row[3])
+
+
+def accounts_file(served: Served, kind: str) -> Response:
+    """The accounts that the page shows, as a file, with numbers in place of names."""
+    settled = served.reading.settled()
+    if settled is None:
+        return gate.said(400, gate.NO_DAY)
+    rows = [(number, of, holder, status, general, aviation)
+            for number, of, _, status, general, aviation, _, holder in account_rows(settled, asked("q"))]  # fmt: skip
+    return rows_file(served, kind, "accounts", OF_ACCOUNTS, rows)
 
 
 def cells_of_account(row: Sequence[Any]) -> Sequence[Any]:
     """The cells of an account, its number with a link."""
-    number, kind, holder, status, general, aviation, name = row
+    number, kind, holder, status, general, aviation, name, _ = row
     shown = joined_words(link(f"/accounts/{number}", number), name)
     return shown, kind, holder, status, grouped(general), grouped(aviation)
 
@@ -87,6 +100,14 @@ def account(served: Served, number: int) -> Any:
         history=[*map(row_of_history, own.of_days(lambda there: history(there, number)))] if asked("history") else None,
         shown_row=lambda row: (*row[:3], own.outcome(str(row[0]), row[1], row[3]), *row[4:]),
     )  # fmt: skip
+
+
+def history_file(served: Served, number: int, kind: str) -> Response:
+    """What became of an account with all columns of ./day history, as a file; NotFound if there is none."""
+    rows = served.reading.of_days(lambda there: history(there, number))
+    if not rows:
+        raise NotFound(f"no day has had an account {number}")
+    return rows_file(served, kind, "history", tables.COLUMNS["history"], rows)
 
 
 def row_of_history(row: Sequence[Any]) -> Sequence[Any]:
@@ -106,6 +127,13 @@ def names(served: Served) -> Any:
     return show_page("names", "Names", rows=sorted(rows, key=lambda row: (row[0], int(row[1]))), kinds=KINDS)
 
 
+def names_file(served: Served, kind: str) -> Response:
+    """The names there are with all columns of ./day label, as a file."""
+    there = sorted(served.reading.names().named.values(), key=lambda own: (own.kind, int(own.number)))
+    rows = [(own.kind, int(own.number), own.name, own.at or None, own.who or None, own.why or None) for own in there]
+    return rows_file(served, kind, "names", tables.COLUMNS["label"], rows)
+
+
 def compliance(served: Served) -> Any:
     """The page of compliance for a year, once a day is settled."""
     own, settled = served.reading, served.reading.settled()
@@ -121,6 +149,16 @@ def compliance(served: Served) -> Any:
         missing=sum(own.missing or 0 for own in rows), date=settled.head.date,
         shown_row=lambda row: cells_of_standing(settled, row[-1]),
     )  # fmt: skip
+
+
+def compliance_file(served: Served, kind: str) -> Response:
+    """Compliance for a year with all columns of ./day compliance, as a file."""
+    settled = served.reading.settled()
+    if settled is None:
+        return gate.said(400, gate.NO_DAY)
+    year = number_asked("year") or answers.last_year_over(settled.head)
+    rows = [*map(answers.cells, answers.standings(settled.day, settled.report, year))]
+    return rows_file(served, kind, "compliance", answers.COLUMNS, rows)
 
 
 def row_of_standing(own: answers.Standing) -> tuple[Any, ...]:
@@ -207,9 +245,8 @@ def find_file(served: Served, kind: str) -> Response:
     """What was found, with all columns of ./day find, as a file."""
     own, found = served.reading, wanted(served.reading.names())
     logged, meant = own.of_days(lambda there: (found_by(there, found), accounts_meant(there, found)))
-    cells = (row for each in logged for row in cells_of_found(each, meant))
-    texts = (["" if cell is None else str(cell) for cell in row] for row in cells)
-    return file_of(served, kind, Written("found", [tables.COLUMNS["find"].names, *texts]))
+    cells = [row for each in logged for row in cells_of_found(each, meant)]
+    return rows_file(served, kind, "found", tables.COLUMNS["find"], cells)
 
 
 def table_file(served: Served, kind: str) -> Response:
@@ -219,6 +256,16 @@ def table_file(served: Served, kind: str) -> Response:
         raise WordsFault(f"{what}: there is no table of it")
     told = [*form.columns_told(what)]
     return file_of(served, kind, Written(what, [[name for name, _ in told]]), Written("columns", [form.HEAD, *told]))
+
+
+def rows_file(served: Served, kind: str, name: str, columns: Columns, rows: Sequence[Sequence[Cell]]) -> Response:
+    """Rows under their columns as csv, as a workbook, or as JSON."""
+    if kind == "json":
+        # (a byte of a name that is no UTF-8 is told as JSON tells it)
+        content = as_json(columns.names, rows).encode("utf-8", "backslashreplace")
+        return Response(content, content_type="application/json")
+    texts = (["" if cell is None else str(cell) for cell in row] for row in rows)
+    return file_of(served, kind, Written(name, [columns.names, *texts]))
 
 
 def file_of(served: Served, kind: str, *sheets: Written) -> Response:
