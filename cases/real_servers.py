@@ -13,7 +13,7 @@ import time
 from collections.abc import Iterator, Mapping, Sequence
 from pathlib import Path
 
-from harness import MOST_SECONDS, TOP, LeftOut
+from harness import MOST_SECONDS, TOP, LeftOut, answer_of
 from logins import Login
 from real_desk import Answer, File, form_of
 
@@ -242,3 +242,17 @@ def ssh_trials(work: Path, path: Path, people: Sequence[Login]) -> Told:
         yield "ssh: no link for a stranger", None if "does not know this login" in told else told
         with there.leads(stranger, path) as other:
             yield "ssh: nothing at the port of a stranger", AtPort(other).get("/").wrong(403)
+
+
+def unit_trials() -> Told:
+    """The service of systemd: its words are known, and what it may do is little."""
+    unit, program = TOP / "examples/desk/registry-desk.service", shutil.which("systemd-analyze")
+    sockets = [path.name for path in (unit, LOCATION) if SOCKET not in path.read_text()]
+    yield "the socket of the service is that of nginx", sockets
+    if not program:
+        raise LeftOut("systemd-analyze is not here")
+    # (in tenths: of 10.0 for a service that may do all)
+    said = answer_of([program, "security", "--offline=true", "--no-pager", "--threshold=10", unit])
+    yield "the service may do little", None if said[2] == 0 else said[0].decode()[-400:]
+    told = answer_of([program, "verify", unit])[1].decode()
+    yield "systemd knows the words of the service", [line for line in told.splitlines() if "nknown" in line]

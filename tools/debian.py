@@ -217,6 +217,7 @@ A first day, from a folder of your own:
 MANIFEST beside this file says what is proved, by which kit, and at which
 commit. registry(1) and registry-day(1) are the manuals, registry-day-text(5)
 tells the texts. For the desk: apt install python3-flask python3-waitress.
+examples/desk/README.md has several people work at it, by a service of systemd.
 """
 # What Python has made of its modules goes, so that nothing is left behind.
 PRERM = """\
