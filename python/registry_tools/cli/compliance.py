@@ -17,7 +17,7 @@
                        assess the year again
     excluded           no figure is determined for an excluded account
 
-Without --year it is the last year of the current period that is over on the day. REPORT must be that of DAY.
+Without --year it is the last year that is over on the day, of any period. REPORT must be that of DAY.
 
 exit status: 0 if each account that is open is compliant, else 1. An excluded or closed account counts as it is; a
 blocked one counts as an open one.

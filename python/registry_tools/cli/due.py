@@ -11,7 +11,8 @@
 
 Deadlines are those of office.ini; no rule of a day text tells one. Without --until it shows as many days ahead as
 office.ini says under [due] lead; without that, 30. An operator whose surrendered allowances suffice is not shown; one
-whose emissions lack behind their deadline is shown with that for surrenders.
+whose emissions lack behind their deadline is shown with that for surrenders. Years of all periods count, whichever is
+the current one: what is missing stays missing until it is surrendered.
 
 People are shown the first working days that are over, and how many more; programs all of them.
 --ics writes the same as a calendar (iCalendar), which other programs take in.

@@ -1,8 +1,8 @@
 """Makes one page of several days for a director: how many operators are compliant, who is missing how much until which
 deadline, the totals as lines over the days, what was refused and why, what waits, and what was changed by hand.
 
-FILE is an HTML page that leads nowhere and prints. Compliance is that of --year; without it, of the last year of the
-current period that is over. No rule of a day text tells a deadline: --deadline names it, or office.ini.
+FILE is an HTML page that leads nowhere and prints. Compliance is that of --year; without it, of the last year
+that is over, of any period. No rule of a day text tells a deadline: --deadline names it, or office.ini.
 Of an account without emissions of some year nobody knows how much is missing: its bar has a frame without an end.
 """
 import argparse

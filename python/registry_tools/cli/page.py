@@ -36,7 +36,7 @@ def add_words(parser: argparse.ArgumentParser) -> None:
     parser.add_argument("folder", metavar="FOLDER", help="the folder that is made")
     only = "make pages of these accounts only, in place of all"
     parser.add_argument("--only", type=int, nargs="+", metavar="ACCOUNT", help=only)
-    year = "the year of compliance.html; else the last one of the current period that is over"
+    year = "the year of compliance.html; else the last one that is over, of any period"
     parser.add_argument("--year", type=int, metavar="Y", help=year)
     history = "all days before DAY from one on, each with its report: the statements begin with them"
     parser.add_argument("--history", nargs="+", default=[], metavar="DAY REPORT", help=history)

@@ -43,7 +43,7 @@ def compliance_parts(
     try:
         year = last_year_over(last.day.head) if named is None else named
     except WordsFault:
-        yield paragraph("No year of the current period is over.")
+        yield paragraph("No year of a period is over.")
         return
     rows = [*standings(last.day, last.report, year)]
     yield compliance_facts(rows, year, until_in_words(last.date, deadline or due.surrender_of(year)))

@@ -63,13 +63,19 @@ class Standing:
 
 
 def last_year_over(head: rules.Day) -> int:
-    """The last year of the current period that is over on the day."""
-    first, last = head.periods[head.current - 1]
-    year = min(last, head.date.year - 1)
-    if year < first:
-        there = f"no year of the current period, {first} to {last}, is over on {head.date}"
+    """The last year that is over on the day, of any period."""
+    over = years_over(head)
+    if not over:
+        there = f"no year of a period is over on {head.date}"
         raise WordsFault(f"{there}: name a year by {voice.option('year')}")
-    return year
+    return over[-1][-1]
+
+
+def years_over(head: rules.Day) -> list[range]:
+    """The years of each period that are over on the day, without periods that have none. Which period is the current
+    one says for what is surrendered from now on, and takes no debt of another one away."""
+    years = (range(first, min(last, head.date.year - 1) + 1) for first, last in head.periods)
+    return [own for own in years if own]
 
 
 def period_of(head: rules.Day, year: int) -> int:

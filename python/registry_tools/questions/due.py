@@ -16,7 +16,7 @@ from registry_tools.office.office import Office
 from registry_tools.texts.labels import Labels
 from registry_tools.pairs.next import about_date
 from registry_tools.office.waits import waits_of
-from registry_tools.pairs.compliance import NO_EMISSIONS, SETTLED, Standing, standings
+from registry_tools.pairs.compliance import NO_EMISSIONS, SETTLED, Standing, standings, years_over
 from registry_tools.showing import Cell
 from registry_tools.texts.day_text import DayText
 from registry_tools.texts.in_words import grouped, instruction_in_words
@@ -72,14 +72,18 @@ def due_until(office: Office, until: datetime.date) -> list[Due]:
 
 
 def deadlines(dates: DueDates, day: DayText, report: Report, names: Labels) -> Iterator[Due]:
-    """By when operators have to do something about each year of the current period that is over. Of deadlines that are
-    over the last one tells all: what is missing for a year, the years before it are missing, too."""
-    head = day.head
-    first, last = head.periods[head.current - 1]
+    """By when operators have to do something about each year that is over, of all periods."""
+    for years in years_over(day.head):
+        yield from deadlines_of_period(years, dates, day, report, names)
+
+
+def deadlines_of_period(years: range, dates: DueDates, day: DayText, report: Report, names: Labels) -> Iterator[Due]:
+    """The same, of one period. Of its deadlines that are over the last one tells all: what is missing for a year, the
+    years before it are missing, too. (What lacks for one period no other one makes good.)"""
     over: int | None = None
-    for year in range(first, min(last, head.date.year - 1) + 1):
+    for year in years:
         named = dates.surrender_of(year), dates.emissions_of(year)
-        surrender, emissions = (date if date and date >= head.date else None for date in named)
+        surrender, emissions = (date if date and date >= day.head.date else None for date in named)
         over = over if surrender or emissions or named == (None, None) else year
         if not surrender and not emissions:
             continue
