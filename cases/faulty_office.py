@@ -13,7 +13,9 @@ from unittest import mock
 
 from damaged_office import CLOSE, DAY, ROW, Trial, Words, two_days
 from harness import TOP, Said, differs
-from offices import FIRST, events_of, must_do, must_do_either, new_office, text_of, told, unchanged
+from offices import (
+    FIRST, chained_anew, events_of, must_do, must_do_either, new_office, text_of, told, unchanged, without_triggers,
+)  # fmt: skip
 
 from registry_tools.pairs import settling
 from registry_tools.second import rules
@@ -26,7 +28,7 @@ FIRST_DAY = "2025-03-31"
 def faulty_trials(work: Path) -> Iterator[Trial]:
     work.mkdir()
     for trials in (
-        named_day_trials, looked_trials, again_trials, engine_trials, left_trials, figure_trials, due_trials,
+        named_day_trials, looked_trials, closing_trials, clock_trials, again_trials, engine_trials, left_trials, figure_trials, due_trials,
         saved_trials, sent_trials,
     ):  # fmt: skip
         yield from trials(work)
@@ -80,6 +82,52 @@ def looked_trials(work: Path) -> Iterator[Trial]:
 
 
 # What comes again.
+
+
+# A transfer that waits, what an operator lacks, and two accounts that are closed.
+CLOSING = [
+    "201,202,transfer,2,1,general,5", *(f"901,902,emissions,1,{year},{tonnes}" for year, tonnes in
+                           ((2021, 10), (2022, 10), (2023, 10), (2024, 500))),
+    "901,902,status,2,closed", "901,902,status,1,closed",
+]  # fmt: skip
+
+
+def closing_trials(work: Path) -> Iterator[Trial]:
+    """An account that still holds something is not closed before somebody says so; an empty one is."""
+    close: Words = ["close", "--second", "--date", DAY]
+    for name, rows in (("full", CLOSING), ("empty", ["901,902,status,2,closed"])):
+        first, handed, office = work / f"{name}-first.csv", work / f"{name}.csv", work / name
+        text = FIRST.read_text().replace("lags,0,", "lags,1,")
+        first.write_text(text if name == "full" else re.sub("do,.*\n", "", text))
+        own: Words = ["--office", str(office)]
+        must_do(["init", str(office), str(first)], [*CLOSE, FIRST_DAY, *own])
+        handed.write_text("".join(f"do,{DAY},{row}\n" for row in rows))
+        must_do(["hand-in", str(handed), *own])
+        if name == "empty":
+            yield "an empty account", told(0, ["is settled"], *close, *own)
+            continue
+        waits = "1 instruction that names it waits"
+        has = [f"LOOK AT THIS: account 2 is closed for good: it holds 40 general allowances, {waits}",
+               f"account 1 is closed for good: it holds 60 general allowances, {waits}, 530 are missing for 2024"]  # fmt: skip
+        yield "accounts that hold something", unchanged(office, 1, [*has, "is not filed"], *close, *own)
+        yield "the same with --yes", told(0, [*has, "is settled"], *close, "--yes", *own)
+
+
+def clock_trials(work: Path) -> Iterator[Trial]:
+    """A day that has not come yet is looked at, and a clock that went back is told, also by audit."""
+    office, own = new_office(work, "clock")
+    has = ["LOOK AT THIS: 2099-01-04 has not come yet: today is "]
+    yield "a day in the future", unchanged(office, 1, has, "close", "--second", "--date", "2099-01-04", *own)
+    with without_triggers(office) as db:
+        db.execute("UPDATE events SET at = '2099-01-01T00:00:00Z' WHERE id = (SELECT max(id) FROM events)")
+    chained_anew(office)
+    handed = work / "clock.csv"
+    handed.write_text(ROW.format(7))
+    has = ["LOOK AT THIS: the clock of this machine says ", "and the last event is of 2099-01-01"]
+    yield "a clock that went back", told(0, has, "hand-in", handed, *own)
+    last = len(events_of(office, "id"))
+    has = [f"a clock went back: event {last} is of ", "and the one before it of 2099-01-01T00:00:00Z"]
+    yield "audit of it", told(0, has, "audit", *own)
 
 
 def again_trials(work: Path) -> Iterator[Trial]:

@@ -42,7 +42,7 @@ def run(said: argparse.Namespace) -> int:
     if said.date is not None:
         raise WordsFault("--date stands behind a command: a place needs none")
     with folder.opened(said.office) as office:
-        parts = approve.approve_places(office, words.by(said, office.people), tuple(said.what))
+        parts = approve.approve_places(office, words.by(said, office), tuple(said.what))
     for part in parts:
         print(f"approved: {part.places}, by {part.by}: {part.name}")
         print("\n".join([*(f"  {row}" for row in part.rows), *part.becomes]))
@@ -66,6 +66,6 @@ def command_approved(said: argparse.Namespace) -> int:
         raise WordsFault(f"name the day of what is approved: {voice.command('approve', command, '--date', 'DATE')}")
     date = dates.date_of(voice.option("date"), said.date)
     with folder.opened(said.office) as office:
-        asked, by = approve.approve_command(office, words.by(said, office.people), command, date)
+        asked, by = approve.approve_command(office, words.by(said, office), command, date)
     print(f"approved: {asked}, asked for by {by}: another login than {office.login} gives it again")
     return 0

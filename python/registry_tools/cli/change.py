@@ -168,7 +168,7 @@ def run(said: argparse.Namespace) -> int:
     words.one_line("who", said.who)
     with folder.opened(said.office) as office:
         asked = Change(tuple(edits_of(said, office.names())), why, said.yes)
-        came = change.change_by_hand(office, words.by(said, office.people), asked)
+        came = change.change_by_hand(office, words.by(said, office), asked)
     print("\n".join([*came.rows, *came.notes]))
     if came.part is None:
         print(f"this would be changed for {came.date}; nothing is, without {voice.option('yes')}")

@@ -44,7 +44,7 @@ def run(said: argparse.Namespace) -> int:
     words.one_line("who", said.who)
     date = None if said.date is None else dates.date_of(voice.option("date"), said.date)
     with folder.opened(said.office) as office:
-        came = closing.close(office, words.by(said, office.people), Close(date, said.second, said.verify, said.yes))
+        came = closing.close(office, words.by(said, office), Close(date, said.second, said.verify, said.yes))
         if isinstance(came, AskedFor):
             return words.tell_asked_for(came)
         if isinstance(came, Doubts):

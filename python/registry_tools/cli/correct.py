@@ -49,7 +49,7 @@ def run(said: argparse.Namespace) -> int:
     asked = Correct(date, why, without, files, said.second, said.verify, said.yes)
     with folder.opened(said.office) as office:
         try:
-            came = correct(office, words.by(said, office.people), asked)
+            came = correct(office, words.by(said, office), asked)
         except Behind as behind:
             words.to_errors(f"{behind.date}, which stands behind it, can't be closed so:")
             raise behind.fault from None

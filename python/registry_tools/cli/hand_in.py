@@ -45,7 +45,7 @@ def run(said: argparse.Namespace) -> int:
     asked = HandIn(words.given(said.files, said.called), tuple(said.again), forms)
     words.one_line("who", said.who)
     with folder.opened(said.office) as office:
-        added = hand_in.hand_in(office, words.by(said, office.people), asked)
+        added = hand_in.hand_in(office, words.by(said, office), asked)
     for part in added.parts:
         count, there = f"{handed.NAMES[part.kind]} {part.count}", places(part.start, part.end)
         print(f"handed in: {part.name}: {count}, {there}")

@@ -13,7 +13,6 @@ from registry_tools.cli import words
 from registry_tools.office import folder
 from registry_tools.office.init import Init, change_first, init
 from registry_tools.layout import SETTINGS
-from registry_tools.office.people import People
 
 EXAMPLE = "./day init out/office examples/week/monday.csv"
 
@@ -36,9 +35,9 @@ def run(said: argparse.Namespace) -> int:
     asked = Init(path, said.first, said.program, said.statements, said.pages)
     if (path / SETTINGS).is_file():
         with folder.opened(said.folder) as office:
-            first = change_first(office, asked, words.by(said, office.people))
+            first = change_first(office, asked, words.by(said, office))
     else:
-        first = init(asked, words.by(said, People()))
+        first = init(asked, words.by(said, None))
     date, counts = first.head.date, f"accounts {len(first.book)}, instructions {len(first.instructions)}"
     then = f"{voice.command('close', '--date', date)} settles it"
     print(f"{path}: the first text is that of {date}: {counts}. {then}")

@@ -35,7 +35,7 @@ def run(said: argparse.Namespace) -> int:
     words.one_line("who", said.who)
     date = None if said.day is None else dates.date_of("DATE", said.day)
     with folder.opened(said.office) as office:
-        came = release.release(office, words.by(said, office.people), Release(date, why, said.yes))
+        came = release.release(office, words.by(said, office), Release(date, why, said.yes))
     if isinstance(came, AskedFor):
         return words.tell_asked_for(came)
     if isinstance(came, Unproved):

@@ -86,7 +86,7 @@ def of_folder(said: argparse.Namespace) -> Sent:
         assert day is not None  # (it is one of the dates)
         wanted = replace(wanted, pending=kept(office.store, day, "waiting"))
         names = office.names() if said.labels is None else labels.read(said.labels)
-        by, is_released = words.by(said, office.people), office.events.is_released(day)
+        by, is_released = words.by(said, office), office.events.is_released(day)
         if not is_released and said.release:
             must_be_proved(day)
         elif not is_released:

@@ -40,7 +40,7 @@ def run(said: argparse.Namespace) -> int:
         raise WordsFault("name what is taken back: a PLACE, --file or --handed-by")
     words.one_line("who", said.who)
     with folder.opened(said.office) as office:
-        items = take_back.take_back(office, words.by(said, office.people), asked)
+        items = take_back.take_back(office, words.by(said, office), asked)
     told = [f"taken back: place {item.place}: {' '.join(item.rows)}" for item in items]
     print("\n".join(first_of(told, MOST_TOLD)))
     return 0

@@ -35,7 +35,7 @@ def run(said: argparse.Namespace) -> int:
     date = None if said.day is None else dates.date_of("DATE", said.day)
     meant = None if said.date is None else dates.date_of(voice.option("date"), said.date)
     with folder.opened(said.office) as office:
-        came = undo.undo(office, words.by(said, office.people), Undo(date, why, meant))
+        came = undo.undo(office, words.by(said, office), Undo(date, why, meant))
         if isinstance(came, AskedFor):
             return words.tell_asked_for(came)
         papers.remove(office, came.date)

@@ -8,12 +8,14 @@ from collections.abc import Sequence
 
 from registry_tools import outcomes, voice
 from registry_tools.errors import FOUND, WordsFault
+from registry_tools.notes import LOOK
 from registry_tools.office import people
 from registry_tools.office.approvals import AskedFor
 from registry_tools.office.folder import WHERE
 from registry_tools.office.incoming import Given
-from registry_tools.office.office import By
+from registry_tools.office.office import By, Office
 from registry_tools.office.people import People
+from registry_tools.store import events
 
 
 def user_name() -> str:
@@ -56,9 +58,13 @@ def one_line(name: str, word: str) -> str:
     return word
 
 
-def by(said: argparse.Namespace, known: People) -> By:
-    """By whom the command is given, of the people that a folder knows: by the login of the process, or the one for
-    which it may speak."""
+def by(said: argparse.Namespace, office: Office | None) -> By:
+    """By whom the command is given, of the people that a folder knows, if it is there already: by the login of the
+    process, or the one for which it may speak. Tells if the clock went back since the last event."""
+    if office is not None and office.events.all and (now := events.now()) < (last := office.events.all[-1].at):
+        clock = f"the clock of this machine says {voice.time(now)}, and the last event is of {voice.time(last)}"
+        to_errors(f"{LOOK}: {clock}: set it right, or what is done now seems to have been done earlier")
+    known = office.people if office is not None else People()
     return By(people.login_for(known, said.whom), one_line("who", said.who), said.seen)
 
 

@@ -2,13 +2,15 @@
 settles it, and the second answer works out the log once more and the accounts that the day touches; all others have to
 stand as before."""
 import datetime
+import re
 from collections import Counter
+from collections.abc import Iterator
 from dataclasses import dataclass
 
 from registry_tools import voice
 from registry_tools.calendars.due_days import NOT_DUE
 from registry_tools.errors import WordsFault, raise_first
-from registry_tools.notes import LOOK, worth_telling
+from registry_tools.notes import LOOK, counted, worth_telling
 from registry_tools.office import approvals, composing, handed, trial
 from registry_tools.pairs import settling
 from registry_tools.office.approvals import AskedFor
@@ -18,7 +20,7 @@ from registry_tools.office.office import By, Office
 from registry_tools.office.program import named_program
 from registry_tools.pairs.settling import Engine
 from registry_tools.office.waits import waits_text
-from registry_tools.pairs.compliance import compliant_share, last_year_over
+from registry_tools.pairs.compliance import compliant_share, last_year_over, standing_of, years_over
 from registry_tools.pairs.verify import expected_rows, first_difference, settled_again
 from registry_tools.second import rules
 from registry_tools.store import daybook
@@ -28,9 +30,13 @@ from registry_tools.store.texts import sum_of
 from registry_tools.texts.books import Sums, sums_of, sums_told
 from registry_tools.texts.day_text import DayText
 from registry_tools.texts.follows import differences_of_totals, must_follow
+from registry_tools.texts.in_words import grouped
 from registry_tools.texts.report import Report, report_of
 from registry_tools.texts.rows import KeptText, rows_of_text
 from registry_tools.texts.runs import unlike
+
+# An instruction that closes an account.
+CLOSES = re.compile(rb"^do,.*,status,[0-9]+,closed$", re.MULTILINE)
 
 
 @dataclass(frozen=True)
@@ -89,14 +95,45 @@ def close(office: Office, by: By, asked: Close) -> Closed | Doubts | AskedFor:
         if not asked.yes and any(note.startswith(LOOK) for note in (*composed.notes, *left)):
             return Doubts(asked.date, [*worth_telling(composed.notes), *left])
         words, result = "--second" if asked.by_second else "", sum_of(composed.text + composed.waiting_text())
+        # (whoever only asks for it is told, too)
+        early = settle(office, composed, asked.by_second, asked.verifies) if CLOSES.search(composed.text) else None
+        if early and not asked.yes and (doubts := [*closed_with_more(early)]):
+            return Doubts(asked.date, [*worth_telling(composed.notes), *doubts])
         approved = approvals.let_through(office, "close", asked.date, words, result)
         if isinstance(approved, AskedFor):
             return approved
-        settled = settle(office, composed, asked.by_second, asked.verifies)
+        settled = early or settle(office, composed, asked.by_second, asked.verifies)
         event = file_day(office, settled, approved)
         later = [part for part in handed_in.parts if handed_in.is_left(part, asked.date)]
         hand_in_again(office, handed_in, later)
     return Closed(event, settled, outcome_of_day(settled), left)
+
+
+def closed_with_more(settled: Settled) -> Iterator[str]:
+    """Tells of each account that the day closes, if it still holds something, something of it waits, or something is
+    missing for it: no act is done on a closed account any more."""
+    left = [own.instruction for own in settled.composed.waiting if not own.entered]
+    left += [own.instruction for own in settled.report.log if own.name == NOT_DUE]
+    for own in settled.report.log:
+        i = own.instruction
+        if not own.is_done or i.act != "status" or i.status != "closed":
+            continue
+        account = settled.report.book[i.first].account()
+        told = [f"it holds {grouped(amount)} {kind} allowances" for kind, amount in account.held.items() if amount]
+        waiting = sum(account.number in rules.named(each) for each in left)
+        if waiting:
+            told.append(counted(waiting, "instruction that names it waits", "instructions that name it wait"))
+        told += [f"{grouped(amount)} are missing for {year}" for year, amount in missing_of(settled.day.head, account)]
+        if told:
+            yield f"{LOOK}: account {account.number} is closed for good: {', '.join(told)}"
+
+
+def missing_of(head: rules.Day, account: rules.Account) -> Iterator[tuple[int, int]]:
+    """What an operator lacks for the last year that is over of each period, with the year."""
+    for years in years_over(head) if account.kind in rules.OPERATORS else ():
+        missing = standing_of(head, account, years[-1]).missing
+        if missing:
+            yield years[-1], missing
 
 
 def left_for_later(handed_in: HandedIn, date: datetime.date) -> list[str]:
@@ -217,7 +254,8 @@ def outcome_of_day(settled: Settled) -> Outcome:
     day, report = settled.day, settled.report
     refused = Counter(own.name for own in report.log if not own.is_done and own.name != NOT_DUE)
     done, waiting = sum(logged.is_done for logged in report.log), waiting_after(settled)
-    notes, compliant = worth_telling(settled.composed.notes), compliance_share(settled)
+    notes = [*worth_telling(settled.composed.notes), *closed_with_more(settled)]
+    compliant = compliance_share(settled)
     first, behind = day.head.next_record, report.next_record
     before = settled.composed.before
     # (nobody changes by hand what accounts hold, have surrendered or have deleted)

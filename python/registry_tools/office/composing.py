@@ -130,8 +130,11 @@ def telling_the_way_out() -> Iterator[None]:
 
 def compose(office: Office, handed_in: HandedIn, date: datetime.date) -> NextDay:
     """The next day, as it stands."""
-    first = handed_in.first_text()
-    return first_day(first, handed_in, date) if first else later_day(office, handed_in, date)
+    first, today = handed_in.first_text(), datetime.date.today()
+    made = first_day(first, handed_in, date) if first else later_day(office, handed_in, date)
+    if date > today:
+        made.notes.append(f"{LOOK}: {date} has not come yet: today is {today}, by the clock of this machine")
+    return made
 
 
 def first_day(first: DayText, handed_in: HandedIn, date: datetime.date) -> NextDay:

@@ -174,6 +174,14 @@ def engines_told(there: Events) -> Iterator[str]:
         yield f"{said}: {len(days)}, last {days[-1].date}"
 
 
+def clock_told(there: Events) -> Iterator[str]:
+    """Where an event is earlier than the one before it. (What came from an older version lies before its upgrade.)"""
+    begun = there.all[0].at if there.all and there.all[0].what == events.UPGRADED else ""
+    for before, event in itertools.pairwise(own for own in there.all if own.at >= begun):
+        if event.at < before.at:
+            yield f"a clock went back: event {event.id} is of {event.at}, and the one before it of {before.at}"
+
+
 def people_told(there: Events) -> Iterator[str]:
     """Where office.ini came to name other people, or other commands of four eyes: whoever may write it may do that, and
     nobody would see it later."""
