@@ -28,8 +28,8 @@ FIRST_DAY = "2025-03-31"
 def faulty_trials(work: Path) -> Iterator[Trial]:
     work.mkdir()
     for trials in (
-        named_day_trials, looked_trials, closing_trials, clock_trials, again_trials, engine_trials, left_trials, figure_trials, due_trials,
-        saved_trials, sent_trials,
+        named_day_trials, looked_trials, closing_trials, clock_trials, again_trials, engine_trials, left_trials,
+        figure_trials, due_trials, saved_trials, sent_trials,
     ):  # fmt: skip
         yield from trials(work)
 
@@ -107,8 +107,10 @@ def closing_trials(work: Path) -> Iterator[Trial]:
             yield "an empty account", told(0, ["is settled"], *close, *own)
             continue
         waits = "1 instruction that names it waits"
-        has = [f"LOOK AT THIS: account 2 is closed for good: it holds 40 general allowances, {waits}",
-               f"account 1 is closed for good: it holds 60 general allowances, {waits}, 530 are missing for 2024"]  # fmt: skip
+        has = [
+            f"LOOK AT THIS: account 2 is closed for good: it holds 40 general allowances, {waits}",
+            f"account 1 is closed for good: it holds 60 general allowances, {waits}, 530 are missing for 2024",
+        ]
         yield "accounts that hold something", unchanged(office, 1, [*has, "is not filed"], *close, *own)
         yield "the same with --yes", told(0, [*has, "is settled"], *close, "--yes", *own)
 

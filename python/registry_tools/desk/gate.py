@@ -13,14 +13,15 @@ from flask.sessions import SecureCookieSessionInterface
 from werkzeug.wrappers import Response
 
 from registry_tools.desk import heads, log
-from registry_tools.desk.door import NO_LINK, Caller, Door, link_name, peer_of
+from registry_tools.desk.door import NO_LINK, NOT_NAMED, Caller, Door, link_name, peer_of
 from registry_tools.desk.heads import LONGEST_NAME, MOST_FORM, Head, Proxy, Refusal
 from registry_tools.desk.jobs import Jobs
 from registry_tools.desk.reading import Reading
 from registry_tools.desk.shown import show_page
 from registry_tools.cli.words import one_line
 from registry_tools.errors import FileFault, RightsFault, WordsFault
-from registry_tools.office import people
+from registry_tools.layout import SETTINGS
+from registry_tools.office import people, settings
 from registry_tools.office.office import By
 from registry_tools.sheets import limits
 
@@ -74,11 +75,21 @@ def let_in(served: Served) -> Any:
     if served.door is not None:
         return let_in_by(served.door, own)
     refusal = heads.refusal_of_address(served.host, own) or heads.refusal_of_proxy(served.proxy, own)
+    refusal = refusal or refusal_of_name(served)
     key = request.args.get("key")
     if not refusal and key is not None and request.method == "GET" and request.path == "/":
         return enter(served, own, key)
     refusal = refusal or heads.refusal_of_browser(served.proxy, own, flask.session) or refusal_of_form()
     return refuse(own, refusal) if refusal else None
+
+
+def refusal_of_name(served: Served) -> Refusal | None:
+    """Why somebody gets nothing whom the proxy names, and office.ini does not."""
+    known = settings.read(served.path / SETTINGS).people.named if served.proxy is not None else {}
+    name = name_of_proxy(served)
+    if not known or name in known:
+        return None
+    return Refusal(403, NOT_NAMED, f"{name}, whom the proxy names, is no login that {SETTINGS} names")
 
 
 def let_in_by(door: Door, own: Head) -> Any:
