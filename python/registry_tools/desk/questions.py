@@ -225,11 +225,11 @@ def find(served: Served) -> Any:
     return show_page("find", "Find", rows=rows, query=query, shown_row=lambda row: cells_of_log(own, row))
 
 
-def row_of_log(own: LogRow) -> tuple[Any, ...]:
-    """A log row as texts."""
+def row_of_log(own: LogRow) -> tuple[str, int, str, str, str, str]:
+    """A log row as texts, with its record."""
     i = own.instruction
     named = ", ".join(map(str, dict.fromkeys(rules.named(i))))
-    by = f"{i.proposer}, {i.approver}" if i.approver else i.proposer
+    by = ", ".join(str(user) for user in (i.proposer, i.approver) if user is not None)
     return str(own.date), own.record, record_in_words(own), named, by, outcome_in_words(own)
 
 
