@@ -72,6 +72,10 @@ STANDINGS = {
     "a surrender behind the assessment": (
         ["retired,7,surrender,general,60,2025-03-01,no"], 60, -60, "", "surrendered since",
     ),
+    "none, too small a surrender": (
+        ["retired,7,surrender,general,50,2025-03-01,no"], 60, None, "", "short but not assessed",
+    ),
+    "none, and nothing missing": (["retired,7,surrender,general,60,2025-03-01,no"], 60, None, "", "not assessed"),
     "too small a surrender": (["retired,7,surrender,general,50,2025-03-01,no"], 60, -60, "", "missing"),
 }  # fmt: skip
 
@@ -87,7 +91,7 @@ def standing_trials(work: Path) -> Iterator[tuple[str, object]]:
             *retired,
             *years,
             f"emissions,2024,{tonnes}",
-            f"figure,2024,{figure}",
+            *([] if figure is None else [f"figure,2024,{figure}"]),
         ]
         text = MONDAY_OF_TWO_PERIODS.replace(
             MONDAY_OF_TWO_PERIODS[

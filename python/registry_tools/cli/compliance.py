@@ -10,7 +10,9 @@
     compliant          the determined figure is 0 or more, and so is the one of now
     missing N          N allowances are missing now
     emissions missing  of the years that are named there is no entry, so there is no figure
-    not assessed       no figure of the year was determined
+    short but not assessed
+                       allowances are missing now, and no figure of the year was determined
+    not assessed       no figure of the year was determined, and nothing is missing
     surrendered since  the determined figure is below 0, and as much was surrendered since, also for later years: assess
                        the year again
     outdated           emissions up to the year, or the correction factor, changed after the figure was determined:

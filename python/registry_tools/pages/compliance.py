@@ -23,7 +23,9 @@ MEANING = {
     compliance.MISSING: "Allowances are missing now: surrender them, and assess the year again.",
     compliance.NO_EMISSIONS: "Of these years there is no entry, so there is no figure: enter them, and assess the "
     "year.",
-    compliance.NOT_ASSESSED: "No figure of the year was determined: assess the year.",
+    compliance.SHORT: "Allowances are missing now, and no figure of the year was determined: surrender them, and "
+    "assess the year.",
+    compliance.NOT_ASSESSED: "No figure of the year was determined, and nothing is missing: assess the year.",
     compliance.SINCE: "The determined figure is below 0, and as much was surrendered since, also for later years: "
     "assess the year again.",
     compliance.OUTDATED: "Emissions up to the year, or the correction factor, changed after the figure was determined: "

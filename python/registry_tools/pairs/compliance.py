@@ -21,9 +21,10 @@ COLUMNS = tables.COLUMNS["compliance"]
 # Where the accounts of a text begin.
 AT = operator.attrgetter("index")
 COMPLIANT, MISSING, NO_EMISSIONS = "compliant", "missing", "emissions missing"
-NOT_ASSESSED, SINCE, OUTDATED, EXCLUDED = "not assessed", "surrendered since", "outdated", "excluded"
+SHORT, NOT_ASSESSED = "short but not assessed", "not assessed"
+SINCE, OUTDATED, EXCLUDED = "surrendered since", "outdated", "excluded"
 # In the order in which they are counted.
-VERDICTS = (COMPLIANT, MISSING, NO_EMISSIONS, NOT_ASSESSED, SINCE, OUTDATED, EXCLUDED)
+VERDICTS = (COMPLIANT, MISSING, NO_EMISSIONS, SHORT, NOT_ASSESSED, SINCE, OUTDATED, EXCLUDED)
 # Nobody has to do anything about these.
 SETTLED = {COMPLIANT, EXCLUDED}
 
@@ -94,7 +95,7 @@ def verdict_of(account: rules.Account, determined: int | None, figure: int | Non
     if figure is None:
         return NO_EMISSIONS
     if determined is None:
-        return NOT_ASSESSED
+        return SHORT if figure < 0 else NOT_ASSESSED
     if is_outdated:
         return OUTDATED
     if figure < 0:
