@@ -99,7 +99,7 @@ def closing_trials(work: Path) -> Iterator[Trial]:
         first, handed, office = work / f"{name}-first.csv", work / f"{name}.csv", work / name
         text = FIRST.read_text().replace("lags,0,", "lags,1,")
         first.write_text(text if name == "full" else re.sub("do,.*\n", "", text))
-        own: Words = ["--office", str(office)]
+        own = ["--office", str(office)]
         must_do(["init", str(office), str(first)], [*CLOSE, FIRST_DAY, *own])
         handed.write_text("".join(f"do,{DAY},{row}\n" for row in rows))
         must_do(["hand-in", str(handed), *own])
