@@ -1,7 +1,6 @@
 """What is wrong with the file of a folder, whatever it says: pages that can't be read, tables and triggers that lack or
 are others, values that can't stand there, and rows that lead nowhere."""
 import functools
-import re
 import sqlite3
 from collections.abc import Callable, Iterator
 from pathlib import Path
@@ -12,7 +11,6 @@ from registry_tools.store.texts import put_back
 
 # How many faults of pages SQLite tells at most.
 MOST_TOLD = 100
-COMMENT = re.compile("--[^\n]*")
 Faults = Iterator[FileFault]
 
 
@@ -75,15 +73,13 @@ def made_of(script: str) -> dict[tuple[str, str], str]:
 
 
 def statements_in(db: sqlite3.Connection) -> dict[tuple[str, str], str]:
-    """What made the tables of a database and all beside them, and of which table each is, by kind and name. Comments
-    and blanks are left out: another version of the tools may have others."""
+    """What made the tables of a database and all beside them, and of which table each is, by kind and name."""
     before, db.text_factory = db.text_factory, told_text
     try:
         made = db.execute("SELECT type, name, tbl_name, coalesce(sql, '') FROM sqlite_master").fetchall()
     finally:
         db.text_factory = before
-    plain = ((kind, name, table, " ".join(COMMENT.sub("", str(own)).split())) for kind, name, table, own in made)
-    return {(str(kind), str(name)): f"{table}: {statement}" for kind, name, table, statement in plain}
+    return {(str(kind), str(name)): f"{table}: {statement}" for kind, name, table, statement in made}
 
 
 def told_text(text: bytes) -> str:

@@ -272,9 +272,10 @@ def must_be_tables(db: sqlite3.Connection, path: Path) -> None:
 
 
 def schema() -> str:
-    """The statements that make all tables."""
+    """The statements that make all tables. A file has them without their comments: so each letter of it counts."""
     own = resources.files(__package__)
-    return "".join((own / name).read_text(encoding="utf-8") for name in ("schema.sql", "daybook.sql"))
+    text = "".join((own / name).read_text(encoding="utf-8") for name in ("schema.sql", "daybook.sql"))
+    return re.sub(r"\n?[ \t]*--[^\n]*", "", text)
 
 
 @contextlib.contextmanager
