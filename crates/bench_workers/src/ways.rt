@@ -163,7 +163,7 @@ pub(crate) fn by_stealing<R: Threads + Wait + Sync, G: Gate>(
 }
 
 /// Settles by workers that own regions of the book and steal them.
-pub(crate) fn by_regions<R: Threads + Sync, G: PlaceGate>(
+pub(crate) fn by_regions<R: Threads + Sync, G: PlaceGate + Sync>(
     rt: &R,
     alloc: Global,
     day: DayParts,

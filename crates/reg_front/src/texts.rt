@@ -10,6 +10,7 @@ ghost use Rattle.reg_text.specs.Report.{report_rows, text_of};
 ghost use Rattle.reg_text.specs.Determined.{figures_rows};
 ghost use Rattle.reg_text.specs.Totals.{totals_rows};
 ghost use Rattle.reg_text.specs.Statement.{statement_of, has_account};
+ghost use Rattle.reg_regions.specs.Working.{WereSettledBy};
 ghost use Rattle.reg_front.specs.declared.command.Command.TheVariants.{Settle, Statement};
 ghost use Rattle.reg_front.specs.declared.fault.FrontFault.TheVariants as front;
 ghost use Rattle.reg_front.specs.Made.{text_made};
@@ -110,7 +111,8 @@ fn make_report<T: Threads + Sync>(
 ) -> Result<Used, NoMemory>
     requires follows { day.batch.base + 1 ≡ day.parts.next }
     requires workers { may_work workers ≡ true }
-    ensures { IfOk result (λ used. text_made used ≡ report_of (day_of_parts day)) }
+    ensures text { IfOk result (λ used. text_made used ≡ report_of (day_of_parts day)) }
+    ensures worked { IfOk result (λ used. WereSettledBy day.batch workers) }
 {
     log_is_made_again();
     let DayParts {

@@ -1,5 +1,5 @@
 -- What regions leave, swapped back, is what the day leaves.
-use Rattle.std.proofs.Common.{◌≡◌, ℕ, suc, ◌+◌, ◌≤◌, eqb, List, length, get_or, Some, Vec, Global}
+use Rattle.std.proofs.Common.{◌≡◌, ℕ, ◌+◌, ◌≤◌, eqb, List, length, get_or, Some, Vec, Global}
 use Rattle.std.proofs.Common.{add-zero, sym, ap, subst, ◌∙◌, arith}
 use Rattle.std.specs.Prelude.{All, Contains, IsPermutation, Option, MatchOption}
 use Rattle.std.specs.List.{IsDistinct}

@@ -1,8 +1,8 @@
 -- Accounts that stand in a book are known, also where they were swapped, and so are those of an instruction.
 use Rattle.std.proofs.Common.{◌≡◌, ℕ, ◌<◌, ◌&&◌, Bool, true, false, cond, eqb, not, List, [], ◌∷◌, ◌++◌, filter}
-use Rattle.std.proofs.Common.{length, map}
+use Rattle.std.proofs.Common.{length}
 use Rattle.std.proofs.Common.{get_or, refl, sym, ap, subst, ◌∙◌, Vec, Global}
-use Rattle.std.specs.Prelude.{All, IsPermutation, slice_index}
+use Rattle.std.specs.Prelude.{All, IsPermutation}
 use Rattle.std.specs.List.{AllByRecursion, list_all}
 use Rattle.std.specs.Option.{option_map_or, option_to_list}
 use Rattle.std.proofs.lemmas.Bool.{eqb-true}

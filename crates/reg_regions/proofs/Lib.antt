@@ -16,5 +16,4 @@ mod Placing
 mod Endings
 mod Listed
 mod Tallied
-mod Ended
-mod Takings
+mod Worked

@@ -1,7 +1,7 @@
 -- Lists that are regions, and what comes of them, put together.
 use Rattle.std.proofs.Common.{◌≡◌, ℕ, zero, suc, ◌+◌, ◌-◌, ◌<◌, List, [], ◌∷◌, ◌++◌, length, map, drop}
 use Rattle.std.proofs.Common.{get_or, Some, Vec, Global, refl, sym, ap, subst, ◌∙◌, arith}
-use Rattle.std.specs.Prelude.{All, slice_get}
+use Rattle.std.specs.Prelude.{slice_get}
 use Rattle.std.specs.List.{flat_map}
 use Rattle.std.specs.Option.{option_map_or}
 use Rattle.std.proofs.Math.Seq.{take-append_seam, drop-append_seam}
@@ -21,13 +21,15 @@ use Rattle.reg_book.specs.Indexes.{index_lists}
 use Rattle.reg_regions.specs.declared.dealing.Deal.{Deal}
 use Rattle.reg_regions.specs.declared.instruction.Placed.{Placed}
 use Rattle.reg_regions.specs.declared.running.settled_list.SettledList.{SettledList}
+use Rattle.reg_run.specs.declared.ran.Ran.{Ran}
+use Rattle.reg_run.specs.Running.{answers_of, numbers_ran}
 use Rattle.reg_regions.specs.Days.{Run, all_opening, AreRuns}
 use Rattle.reg_regions.specs.Dealing.{AreDealt, AreDealtOnce, AreInPlaces, AreSettledOnce}
 use Rattle.reg_regions.specs.Homes.{AreHome, AreAllHome, dealt_places}
 use Rattle.reg_regions.specs.Settling.{IsRun, places_in}
 use Rattle.reg_regions.specs.Lists.{joined_lists, sizes_of}
 use Rattle.reg_regions.specs.Stealing.{region_openings, region_opening, places_at, IsGround}
-use Rattle.reg_regions.specs.Stealing.{IsSettledList, numbers_of, settled_places}
+use Rattle.reg_regions.specs.Stealing.{IsSettledList, AreSettled, settled_places}
 use Rattle.reg_regions.proofs.Keeping.{numbers-all}
 use Rattle.reg_regions.proofs.Pieces.{ready-cut}
 
@@ -48,14 +50,15 @@ next-deal (x ∷ ds) zero d left e = (cc, cc)
 next-deal (x ∷ ds) (suc k) d left e = next-deal ds k d left e
 
 -- what came of a region
-abbrev pub run_of : SettledList → Run
-run_of s = record { afterwards = s.accounts.items; replies = s.replies.items }
+abbrev pub run_of : Ran SettledList → Run
+run_of s = record { afterwards = s.answer.accounts.items; replies = s.answer.replies.items }
 
-places-flat : (ss : List SettledList) → places_in (flat_map (λ s. s.replies.items) ss) ≡ settled_places ss
+places-flat : (ss : List (Ran SettledList))
+    → places_in (flat_map (λ s. s.answer.replies.items) ss) ≡ settled_places (answers_of ss)
 places-flat [] = refl
 places-flat (s ∷ ss) =
-    map-append (λ (p : Placed). p.place) s.replies.items (flat_map (λ t. t.replies.items) ss)
-    ∙ ap (λ ps. places_in s.replies.items ++ ps) (places-flat ss)
+    map-append (λ (p : Placed). p.place) s.answer.replies.items (flat_map (λ t. t.answer.replies.items) ss)
+    ∙ ap (λ ps. places_in s.answer.replies.items ++ ps) (places-flat ss)
 
 sizes-openings : (lists : List (Vec AccountValue Global)) → map length (region_openings lists) ≡ sizes_of lists
 sizes-openings [] = refl
@@ -63,10 +66,10 @@ sizes-openings (l ∷ lists) = ap (λ ns. length l.items ∷ ns) (sizes-openings
 
 module _ (c : Setting) (b : BatchValue) (openings : List State) (deals : List Deal) where
   -- settled regions with the numbers from one on are what came of the regions that are left
-  runs-from : (ss : List SettledList) (k : ℕ) (os : List State) (ds : List Deal)
-      → numbers_of ss ≡ count_up (suc k) (length os) → os ≡ drop k openings → ds ≡ drop k deals
-      → length os ≡ length ds → All (IsSettledList c b openings deals) ss
-      → AreRuns c b os (map run_of ss) × (settled_places ss ≡ dealt_places ds)
+  runs-from : (ss : List (Ran SettledList)) (k : ℕ) (os : List State) (ds : List Deal)
+      → numbers_ran ss ≡ count_up (suc k) (length os) → os ≡ drop k openings → ds ≡ drop k deals
+      → length os ≡ length ds → AreSettled c b openings deals ss
+      → AreRuns c b os (map run_of ss) × (settled_places (answers_of ss) ≡ dealt_places ds)
   runs-from [] k [] [] same at at_deals many all = (tt, refl)
   runs-from [] k [] (d ∷ ds) same at at_deals many all = absurd (omega (arith, many))
   runs-from [] k (o ∷ os) ds same at at_deals many all = absurd cc
@@ -74,10 +77,11 @@ module _ (c : Setting) (b : BatchValue) (openings : List State) (deals : List De
   runs-from (s ∷ ss) k (o ∷ os) [] same at at_deals many all = absurd (omega (arith, many))
   runs-from (s ∷ ss) k (o ∷ os) (d ∷ ds) same at at_deals many all =
       let number : s.number ≡ suc k = cc in
-      let later : numbers_of ss ≡ count_up (suc k + 1) (length os) = cc in
+      let later : numbers_ran ss ≡ count_up (suc k + 1) (length os) = cc in
       let next : suc k + 1 ≡ suc (suc k) = omega arith in
       let before : s.number - 1 ≡ k = omega (arith, number) in
-      let here : IsSettledList c b openings deals s = All-head (IsSettledList c b openings deals) s ss all in
+      let here : IsSettledList c b openings deals s.number s.answer =
+      All-head (λ r. IsSettledList c b openings deals r.number r.answer) s ss all in
       let front = next-opening openings k o os at in
       let front_deal = next-deal deals k d ds at_deals in
       let mine : region_opening openings s.number ≡ o = ap (λ j. get_or openings j []) before ∙ sym front.1 in
@@ -85,38 +89,38 @@ module _ (c : Setting) (b : BatchValue) (openings : List State) (deals : List De
       ap (λ j. option_map_or (λ (e : Deal). e.places.items) (slice_get deals j) []) before
       ∙ ap (λ r. option_map_or (λ (e : Deal). e.places.items) r []) front_deal.0 in
       let rest = runs-from ss (suc k) os ds (later ∙ ap (λ j. count_up j (length os)) next) front.2 front_deal.1
-      (omega (arith, many)) (All-tail (IsSettledList c b openings deals) s ss all) in (
-        (subst (λ x. IsRun c b x s.accounts.items s.replies.items) mine here.run, rest.0),
-        ap (λ ps. ps ++ settled_places ss) (here.places ∙ own) ∙ ap (λ ps. d.places.items ++ ps) rest.1,
+      (omega (arith, many)) (All-tail (λ r. IsSettledList c b openings deals r.number r.answer) s ss all) in (
+        (subst (λ x. IsRun c b x s.answer.accounts.items s.answer.replies.items) mine here.run, rest.0),
+        ap (λ ps. ps ++ settled_places (answers_of ss)) (here.places ∙ own) ∙ ap (λ ps. d.places.items ++ ps) rest.1,
       )
 
-  sizes-after : StepLaws → (os : List State) (ss : List SettledList) → AreRuns c b os (map run_of ss)
-      → sizes_of (map (λ s. s.accounts) ss) ≡ map length os
+  sizes-after : StepLaws → (os : List State) (ss : List (Ran SettledList)) → AreRuns c b os (map run_of ss)
+      → sizes_of (map (λ s. s.answer.accounts) ss) ≡ map length os
   sizes-after laws [] [] runs = refl
   sizes-after laws [] (s ∷ ss) runs = absurd runs
   sizes-after laws (o ∷ os) [] runs = absurd runs
   sizes-after laws (o ∷ os) (s ∷ ss) runs =
-      let kept = ap numbers runs.0.accounts ∙ numbers-all laws c b o (places_in s.replies.items) in
-      let size : length s.accounts.items ≡ length o =
-      sym (length-numbers s.accounts.items) ∙ ap length kept ∙ length-numbers o in
-      ap (λ n. n ∷ sizes_of (map (λ t. t.accounts) ss)) size
+      let kept = ap numbers runs.0.accounts ∙ numbers-all laws c b o (places_in s.answer.replies.items) in
+      let size : length s.answer.accounts.items ≡ length o =
+      sym (length-numbers s.answer.accounts.items) ∙ ap length kept ∙ length-numbers o in
+      ap (λ n. n ∷ sizes_of (map (λ t. t.answer.accounts) ss)) size
       ∙ ap (λ ns. length o ∷ ns) (sizes-after laws os ss runs.1)
 
-  module _ (ss : List SettledList) (same : numbers_of ss ≡ count_up 1 (length openings))
-      (many : length openings ≡ length deals) (all : All (IsSettledList c b openings deals) ss)
+  module _ (ss : List (Ran SettledList)) (same : numbers_ran ss ≡ count_up 1 (length openings))
+      (many : length openings ≡ length deals) (all : AreSettled c b openings deals ss)
       (lists new : List (Vec AccountValue Global)) (opened : openings ≡ region_openings lists)
-      (closed : new ≡ map (λ s. s.accounts) ss) where
-    runs-whole : AreRuns c b openings (map run_of ss) × (settled_places ss ≡ dealt_places deals)
+      (closed : new ≡ map (λ s. s.answer.accounts) ss) where
+    runs-whole : AreRuns c b openings (map run_of ss) × (settled_places (answers_of ss) ≡ dealt_places deals)
     runs-whole = runs-from ss 0 openings deals same refl refl many all
 
     -- the lists were dealt out, and this is what came of them
-    dealt-lists : AreDealt c b (joined_lists lists) (joined_lists new) (flat_map (λ s. s.replies.items) ss)
+    dealt-lists : AreDealt c b (joined_lists lists) (joined_lists new) (flat_map (λ s. s.answer.replies.items) ss)
     dealt-lists = record {
       openings = openings;
       runs = map run_of ss;
       cut = ap all_opening opened ∙ flat_map-map (λ (s : State). s) (λ l. l.items) lists;
       joined = flat_map-map (λ (r : Run). r.afterwards) run_of ss
-          ∙ sym (flat_map-map (λ l. l.items) (λ s. s.accounts) ss) ∙ ap joined_lists (sym closed);
+          ∙ sym (flat_map-map (λ l. l.items) (λ s. s.answer.accounts) ss) ∙ ap joined_lists (sym closed);
       told = flat_map-map (λ (r : Run). r.replies) run_of ss;
       are = runs-whole.0;
     }
@@ -128,19 +132,20 @@ module _ (c : Setting) (b : BatchValue) (openings : List State) (deals : List De
 
     module _ (each : AreDealtOnce b deals) where
       -- each place was settled once
-      pub places-once : (p : ℕ) → times p (settled_places ss) ≡ once (length b.instructions) p
+      pub places-once : (p : ℕ) → times p (settled_places (answers_of ss)) ≡ once (length b.instructions) p
       places-once p = ap (times p) runs-whole.1 ∙ each p
 
       -- and the replies stand at their places
-      pub settled-once : (replies : List Reply) (own : List (Vec Placed Global)) → own ≡ map (λ s. s.replies) ss
+      pub settled-once : (replies : List Reply) (own : List (Vec Placed Global)) → own ≡ map (λ s. s.answer.replies) ss
           → AreInPlaces (length b.instructions) (joined_lists own) replies
           → AreSettledOnce c b (joined_lists lists) (joined_lists new) replies
       settled-once replies own is in_places = record {
-        told = flat_map (λ s. s.replies.items) ss;
+        told = flat_map (λ s. s.answer.replies.items) ss;
         dealt = dealt-lists;
         each_once = λ p. ap (times p) (places-flat ss) ∙ places-once p;
         in_places = subst (λ told. AreInPlaces (length b.instructions) told replies)
-            (ap joined_lists is ∙ flat_map-map (λ (v : Vec Placed Global). v.items) (λ (s : SettledList). s.replies) ss)
+            (ap joined_lists is
+            ∙ flat_map-map (λ (v : Vec Placed Global). v.items) (λ (s : Ran SettledList). s.answer.replies) ss)
             in_places;
       }
 

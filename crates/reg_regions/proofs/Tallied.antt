@@ -1,10 +1,11 @@
 -- Settled regions counted: each number once, and each place as often as it was dealt out.
-use Rattle.std.proofs.Common.{◌≡◌, ℕ, zero, suc, ◌+◌, ◌<◌, ◌==◌, Bool, true, false, cond, List, [], ◌∷◌, ◌++◌}
-use Rattle.std.proofs.Common.{append_assoc, refl, sym, ap, ◌∙◌, arith, add-one}
-use Rattle.std.specs.Prelude.{All}
-use Rattle.std.specs.List.{flat_map, range_with_len}
+use Rattle.std.proofs.Common.{◌≡◌, ℕ, ◌+◌, ◌<◌, ◌==◌, Bool, true, false, cond, List, [], ◌∷◌, ◌++◌}
+use Rattle.std.proofs.Common.{append-nil, append_assoc, map, refl, sym, ap, ◌∙◌, arith, add-one}
+use Rattle.std.specs.List.{flat_map}
+use Rattle.std.proofs.lemmas.Grind.{flat_map-append}
+use Rattle.std.proofs.lemmas.List.{map-append}
 use Rattle.std.proofs.lemmas.Bool.{eqb-true}
-use Rattle.std.proofs.lemmas.List.Elements.{All-append, All-nil, All-head, All-tail}
+use Rattle.std.proofs.lemmas.List.Elements.{All-head, All-tail}
 use Rattle.reg_facts.proofs.lemmas.Times.{equal-one, times-append}
 use Rattle.reg_facts.specs.Counting.{one_if, total, times}
 use Rattle.reg_facts.specs.Lists.{first_numbers}
@@ -13,8 +14,11 @@ use Rattle.reg_base.specs.Batch.{BatchValue}
 use Rattle.reg_rules.specs.State.{State, Setting}
 use Rattle.reg_regions.specs.declared.dealing.Deal.{Deal}
 use Rattle.reg_regions.specs.declared.running.settled_list.SettledList.{SettledList}
+use Rattle.reg_run.specs.declared.ran.Ran.{Ran}
+use Rattle.reg_run.specs.Running.{AreEnds, answers_of, numbers_ran}
+use Rattle.reg_run.specs.Taking.{WorkerView}
 use Rattle.reg_regions.specs.Settling.{kept, places_in}
-use Rattle.reg_regions.specs.Stealing.{IsSettledList, AreSettled, numbers_of, places_at, settled_places, times_noted}
+use Rattle.reg_regions.specs.Stealing.{IsSettledList, AreSettled, IsNoted, places_at, settled_places, times_noted}
 
 -- a list without the first of its numbers that is this one
 without : ℕ → List ℕ → List ℕ
@@ -50,24 +54,24 @@ total-same g (x ∷ xs) ys same =
 
 -- the places of settled regions, by their numbers
 pub times-places : (c : Setting) (b : BatchValue) (openings : List State) (deals : List Deal) (p : ℕ)
-    (ss : List SettledList) → AreSettled c b openings deals ss
-    → times p (settled_places ss) ≡ total (λ n. times p (places_at deals n)) (numbers_of ss)
+    (ss : List (Ran SettledList)) → AreSettled c b openings deals ss
+    → times p (settled_places (answers_of ss)) ≡ total (λ n. times p (places_at deals n)) (numbers_ran ss)
 times-places c b openings deals p [] all = refl
 times-places c b openings deals p (s ∷ ss) all =
-    times-append p (places_in s.replies.items) (settled_places ss)
-    ∙ ap (λ ps. times p ps + times p (settled_places ss))
-    (All-head (IsSettledList c b openings deals) s ss all).places
+    times-append p (places_in s.answer.replies.items) (settled_places (answers_of ss))
+    ∙ ap (λ ps. times p ps + times p (settled_places (answers_of ss)))
+    (All-head (λ r. IsSettledList c b openings deals r.number r.answer) s ss all).places
     ∙ ap (λ n. times p (places_at deals s.number) + n)
-    (times-places c b openings deals p ss (All-tail (IsSettledList c b openings deals) s ss all))
+    (times-places c b openings deals p ss (All-tail (λ r. IsSettledList c b openings deals r.number r.answer) s ss all))
 
 -- regions in another order have the same places
 pub places-same : (c : Setting) (b : BatchValue) (openings : List State) (deals : List Deal) (p : ℕ)
-    (ss ts : List SettledList) → AreSettled c b openings deals ss → AreSettled c b openings deals ts
-    → ((q : ℕ) → times q (numbers_of ss) ≡ times q (numbers_of ts))
-    → times p (settled_places ss) ≡ times p (settled_places ts)
+    (ss ts : List (Ran SettledList)) → AreSettled c b openings deals ss → AreSettled c b openings deals ts
+    → ((q : ℕ) → times q (numbers_ran ss) ≡ times q (numbers_ran ts))
+    → times p (settled_places (answers_of ss)) ≡ times p (settled_places (answers_of ts))
 places-same c b openings deals p ss ts all each same =
     times-places c b openings deals p ss all
-    ∙ total-same (λ n. times p (places_at deals n)) (numbers_of ss) (numbers_of ts) same
+    ∙ total-same (λ n. times p (places_at deals n)) (numbers_ran ss) (numbers_ran ts) same
     ∙ sym (times-places c b openings deals p ts each)
 
 -- ---- what workers noted
@@ -76,6 +80,10 @@ places-same c b openings deals p ss ts all each same =
 pub noted-times : {N : Type 0} (places : N → List ℕ) (p : ℕ) (all : List N) (n : N)
     → times_noted places p (all ++ n ∷ []) ≡ times_noted places p all + times p (places n)
 noted-times places p all n = omega (arith, total-append (λ x. times p (places x)) all (n ∷ []))
+
+kept-none : (keeps : Bool) → kept keeps [] ≡ []
+kept-none true = refl
+kept-none false = refl
 
 kept-append : (keeps : Bool) (ps qs : List ℕ) → kept keeps (ps ++ qs) ≡ kept keeps ps ++ kept keeps qs
 kept-append true ps qs = refl
@@ -89,7 +97,7 @@ noted-more keeps old ps qs before =
     ∙ ap (λ ns. old ++ ns) (sym (kept-append keeps ps qs))
 
 -- how often a place stands in what is kept of places
-pub kept-times : (keeps : Bool) (p : ℕ) (ps qs : List ℕ)
+kept-times : (keeps : Bool) (p : ℕ) (ps qs : List ℕ)
     → times p (kept keeps (ps ++ qs)) ≡ times p (kept keeps ps) + times p (kept keeps qs)
 kept-times keeps p ps qs =
     ap (times p) (kept-append keeps ps qs) ∙ times-append p (kept keeps ps) (kept keeps qs)
@@ -97,23 +105,51 @@ kept-times keeps p ps qs =
 pub numbers-next : (n : ℕ) → first_numbers (n + 1) ≡ first_numbers n ++ n ∷ []
 numbers-next n = rw add-one refl
 
--- what holds of each item of each list holds of all
-pub all-flat : {X Y : Type 0} (P : Y → Type 0) (f : X → List Y) (xs : List X) → All (λ x. All P (f x)) xs
-    → All P (flat_map f xs)
-all-flat P f [] all = All-nil P
-all-flat P f (x ∷ xs) all =
-    All-append P (f x) (flat_map f xs) (All-head (λ y. All P (f y)) x xs all)
-    (all-flat P f xs (All-tail (λ y. All P (f y)) x xs all))
-
--- two words for the numbers below one
-pub range-first : (n : ℕ) → range_with_len 0 n ≡ first_numbers n
-range-first zero = refl
-range-first (suc n) =
-    let e : 0 + n ≡ n = omega arith in
-    go n 0 ∙ ap (λ x. range_with_len 0 n ++ x ∷ []) e ∙ ap (λ ns. ns ++ n ∷ []) (range-first n)
+-- what workers noted that settled these regions, worker by worker: all numbers and all places
+module _ {N : Type 0} (promises : ℕ → SettledList → Type 0) (worker_of : N → ℕ) (keeps : Bool) (places : N → List ℕ)
   where
-    go : (m f : ℕ) → range_with_len f (suc m) ≡ range_with_len f m ++ (f + m) ∷ []
-    go zero f = let e : f ≡ f + 0 = omega arith in ap (λ x. x ∷ []) e
-    go (suc m) f =
-        let e : f + 1 + m ≡ f + suc m = omega arith in
-        ap (λ xs. f ∷ xs) (go m (f + 1)) ∙ ap (λ x. f ∷ (range_with_len (f + 1) m ++ x ∷ [])) e
+    pub ended-workers : (ks : List WorkerView) (rans : List (List (Ran SettledList))) (ns : List N)
+        → AreEnds promises (IsNoted worker_of keeps places) ks rans ns → map worker_of ns ≡ map (λ k. k.worker) ks
+    ended-workers [] [] [] ends = refl
+    ended-workers [] [] (n ∷ ns) ends = absurd ends
+    ended-workers [] (r ∷ rs) ns ends = absurd ends
+    ended-workers (k ∷ ks) [] ns ends = absurd ends
+    ended-workers (k ∷ ks) (r ∷ rs) [] ends = absurd ends
+    ended-workers (k ∷ ks) (r ∷ rs) (n ∷ ns) ends =
+        ap (λ w. w ∷ map worker_of ns) ends.0.noted.worker_is
+        ∙ ap (λ ws. k.worker ∷ ws) (ended-workers ks rs ns ends.1)
+
+    pub ended-times : (p : ℕ) (ks : List WorkerView) (rans : List (List (Ran SettledList))) (ns : List N)
+        → AreEnds promises (IsNoted worker_of keeps places) ks rans ns
+        → times_noted places p ns ≡ times p (kept keeps (settled_places (answers_of (flat_map (λ r. r) rans))))
+    ended-times p [] [] [] ends = ap (times p) (sym (kept-none keeps))
+    ended-times p [] [] (n ∷ ns) ends = absurd ends
+    ended-times p [] (r ∷ rs) ns ends = absurd ends
+    ended-times p (k ∷ ks) [] ns ends = absurd ends
+    ended-times p (k ∷ ks) (r ∷ rs) [] ends = absurd ends
+    ended-times p (k ∷ ks) (r ∷ rs) (n ∷ ns) ends =
+        let own = settled_places (answers_of r) in
+        let rest = flat_map (λ x. x) rs in
+        let others = settled_places (answers_of rest) in
+        let all : settled_places (answers_of (r ++ rest)) ≡ own ++ others =
+        ap settled_places (map-append (λ (x : Ran SettledList). x.answer) r rest)
+        ∙ flat_map-append (λ (s : SettledList). places_in s.replies.items) (answers_of r) (answers_of rest) in
+        ap (λ ps. times p ps + times_noted places p ns) ends.0.noted.places_are
+        ∙ ap (λ m. times p (kept keeps own) + m) (ended-times p ks rs ns ends.1)
+        ∙ sym (ap (λ ps. times p (kept keeps ps)) all ∙ kept-times keeps p own others)
+
+-- one region more is noted
+pub noted-on : {N : Type 0} (worker_of : N → ℕ) (keeps : Bool) (places : N → List ℕ) (worker : ℕ)
+    (before : List SettledList) (s : SettledList) (old new : N) → worker_of new ≡ worker_of old
+    → places new ≡ places old ++ kept keeps (places_in s.replies.items)
+    → IsNoted worker_of keeps places worker before old → IsNoted worker_of keeps places worker (before ++ s ∷ []) new
+noted-on worker_of keeps places worker before s old new same more noted =
+    let own = places_in s.replies.items in
+    let all : settled_places (before ++ s ∷ []) ≡ settled_places before ++ own =
+    flat_map-append (λ (t : SettledList). places_in t.replies.items) before (s ∷ [])
+    ∙ ap (λ ps. settled_places before ++ ps) (append-nil own) in
+    record {
+      worker_is = same ∙ noted.worker_is;
+      places_are = more ∙ ap (λ ps. ps ++ kept keeps own) noted.places_are
+          ∙ sym (kept-append keeps (settled_places before) own) ∙ ap (kept keeps) (sym all);
+    }

@@ -7,5 +7,5 @@ pub mod Homes
 pub mod Lists
 pub mod Dealing
 pub mod Stealing
-pub mod Taking
 pub mod Outcomes
+pub mod Working

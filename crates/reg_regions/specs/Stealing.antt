@@ -1,6 +1,5 @@
 -- Workers that take regions from deques: what a region begins with, and what comes of all.
 use Rattle.std.specs.Prelude.{◌≡◌, ℕ, ◌+◌, ◌-◌, ◌<◌, List, [], All, map, length, Some}
-use Rattle.std.specs.Prelude.{Contains, Option}
 use Rattle.std.specs.Prelude.{Bool, true}
 use Rattle.std.specs.Prelude.{slice_get, slice_index_or}
 use Rattle.std.specs.List.{flat_map}
@@ -19,7 +18,8 @@ use Rattle.reg_regions.specs.declared.dealing.Deal.{Deal}
 use Rattle.reg_regions.specs.declared.running.settled_list.SettledList.{SettledList}
 use Rattle.reg_regions.specs.declared.running.shift.WorkShift.{WorkShift}
 use Rattle.reg_regions.specs.Homes.{AreHome}
-use Rattle.reg_regions.specs.Settling.{IsRun, places_in}
+use Rattle.reg_regions.specs.Settling.{IsRun, kept, places_in}
+use Rattle.reg_run.specs.declared.ran.Ran.{Ran}
 
 -- what each list has
 abbrev pub region_openings : List (Vec AccountValue Global) → List State
@@ -41,23 +41,15 @@ pub record IsGround (c : Setting) (b : BatchValue) (openings : List State) (deal
   pub home : (k : ℕ) (d : Deal) → slice_get deals k ≡ Some d
       → AreHome c b (numbers (slice_index_or openings k [])) d.places.items (index_lists d.indexes.items)
 
--- this came of the region with its number: all its instructions were carried out on what it begins with
-pub record IsSettledList (c : Setting) (b : BatchValue) (openings : List State) (deals : List Deal) (s : SettledList)
-    : Type 0 where
-  pub run : IsRun c b (region_opening openings s.number) s.accounts.items s.replies.items
-  pub places : places_in s.replies.items ≡ places_at deals s.number
+-- this came of the region with this number: all its instructions were carried out on what it begins with
+pub record IsSettledList (c : Setting) (b : BatchValue) (openings : List State) (deals : List Deal) (number : ℕ)
+    (s : SettledList) : Type 0 where
+  pub run : IsRun c b (region_opening openings number) s.accounts.items s.replies.items
+  pub places : places_in s.replies.items ≡ places_at deals number
 
 -- the same of each
-abbrev pub AreSettled : Setting → BatchValue → List State → List Deal → List SettledList → Type 0
-AreSettled c b openings deals settled = All (IsSettledList c b openings deals) settled
-
--- the numbers of settled regions
-abbrev pub numbers_of : List SettledList → List ℕ
-numbers_of settled = map (λ s. s.number) settled
-
--- each place has one of these, or nothing
-abbrev pub AreAmong : List SettledList → List (Option SettledList) → Type 0
-AreAmong settled places = All (λ o. (s : SettledList) → o ≡ Some s → Contains settled s) places
+abbrev pub AreSettled : Setting → BatchValue → List State → List Deal → List (Ran SettledList) → Type 0
+AreSettled c b openings deals ran = All (λ r. IsSettledList c b openings deals r.number r.answer) ran
 
 -- the places of their instructions, in the order in which these were carried out
 abbrev pub settled_places : List SettledList → List ℕ
@@ -74,6 +66,12 @@ shift_workers shifts = map (λ s. s.worker) shifts
 -- how often a place stands in shifts, taken together
 abbrev pub times_in_shifts : ℕ → List WorkShift → ℕ
 times_in_shifts place shifts = times_noted (λ s. s.places.items) place shifts
+
+-- what a worker notes that settled these regions, one after another
+pub record IsNoted {N : Type 0} (worker_of : N → ℕ) (keeps : Bool) (places : N → List ℕ) (worker : ℕ)
+    (settled : List SettledList) (notes : N) : Type 0 where
+  pub worker_is : worker_of notes ≡ worker
+  pub places_are : places notes ≡ kept keeps (settled_places settled)
 
 -- what each worker noted, in rising order; if places are kept, each of the places 1 to n stands there once, and no
 -- other number

@@ -1,7 +1,8 @@
 //! What workers pass before each instruction, and behind it.
 
-/// What a worker passes before it carries out an instruction, and behind it. Several workers may pass at once.
-pub trait PlaceGate: Sync {
+/// What a worker passes before it carries out an instruction, and behind it. Several workers may pass at once, so a
+/// gate that threads pass is `Sync`.
+pub trait PlaceGate {
     /// A worker, counted from 0, is about to carry out the instruction at a place, counted from 1.
     fn enter(&self, worker: u32, place: u32);
 

@@ -13,6 +13,7 @@ ghost use Rattle.reg_regions.specs.Outcomes.{may_work, AreShiftsOf, IsRegionsFau
 ghost use Rattle.reg_regions.specs.Dealing.{AreTurned};
 ghost use Rattle.reg_regions.specs.Lists.{joined_lists};
 ghost use Rattle.reg_regions.specs.Stealing.{AreNotesOf};
+ghost use Rattle.reg_regions.specs.Working.{WereSettledBy};
 
 use crate::admission::admit;
 use crate::advice::advise;
@@ -61,7 +62,7 @@ const REGIONS_EACH: u32 = 3;
 /// number of the batch is not the book's next record number. Both are told before any memory is taken or thread is
 /// started, and give the book back as it was. `NoMemory` if memory ran out: then the book is gone. All threads have
 /// ended. Where a thread can't be started, the others do its work.
-pub fn settle_regions<R: Threads + Sync, G: PlaceGate>(
+pub fn settle_regions<R: Threads + Sync, G: PlaceGate + Sync>(
     rt: &R,
     alloc: Global,
     parts: Parts,
@@ -76,6 +77,7 @@ pub fn settle_regions<R: Threads + Sync, G: PlaceGate>(
         (λ e. IsRegionsFault workers parts batch.now e.fault) }
     ensures replies { IfOk result (λ c. c.0.replies.items ≡ replies_of (day_of parts rules.now batch.now)) }
     ensures shifts { IfOk result (λ c. AreShiftsOf workers (length batch.now.instructions) c.1.items) }
+    ensures worked { IfOk result (λ c. WereSettledBy batch.now workers) }
     ensures back { IfErr result (λ e. e.parts ≡ handed_back e.fault parts) }
 {
     if !are_allowed(workers) {
@@ -93,7 +95,7 @@ pub fn settle_regions<R: Threads + Sync, G: PlaceGate>(
 ///
 /// # Errors
 /// `NoMemory` if memory ran out: then the book is gone. All threads have ended.
-pub fn settle_without_shifts<R: Threads + Sync, G: PlaceGate>(
+pub fn settle_without_shifts<R: Threads + Sync, G: PlaceGate + Sync>(
     rt: &R,
     alloc: Global,
     parts: Parts,
@@ -108,6 +110,7 @@ pub fn settle_without_shifts<R: Threads + Sync, G: PlaceGate>(
         (λ closed. closed.parts ≡ committed parts (settled_day (day_of parts rules.now batch.now))) }
     ensures replies { IfOk result
         (λ closed. closed.replies.items ≡ replies_of (day_of parts rules.now batch.now)) }
+    ensures worked { IfOk result (λ closed. WereSettledBy batch.now workers) }
 {
     let (closed, _) = settle_book::<NoShift, R, G>(rt, alloc, parts, rules, batch, workers, gate)?;
     Ok(closed)
@@ -121,7 +124,7 @@ pub fn are_allowed(workers: u32) -> bool
 }
 
 // Settles a batch, which begins with the book's next record number, by workers whose number is within its limits.
-fn settle_book<N: Notes + Send, R: Threads + Sync, G: PlaceGate>(
+fn settle_book<N: Notes + Send, R: Threads + Sync, G: PlaceGate + Sync>(
     rt: &R,
     alloc: Global,
     parts: Parts,
@@ -137,6 +140,7 @@ fn settle_book<N: Notes + Send, R: Threads + Sync, G: PlaceGate>(
     ensures replies { IfOk result (λ c. c.0.replies.items ≡ replies_of (day_of parts rules.now batch.now)) }
     ensures notes { IfOk result
         (λ c. AreNotesOf N.worker N.keeps N.places workers (length batch.now.instructions) c.1.items) }
+    ensures worked { IfOk result (λ c. WereSettledBy batch.now workers) }
 {
     rules.are_within_limits();
     step_laws();
@@ -174,7 +178,7 @@ fn regions_wanted(workers: u32, instructions: u32) -> usize {
 
 // Carries out the instructions by regions, or as those of one region if they can't be dealt out. A book in fewer lists
 // than regions are wanted is cut before.
-fn settle_by_advice<N: Notes + Send, R: Threads + Sync, G: PlaceGate>(
+fn settle_by_advice<N: Notes + Send, R: Threads + Sync, G: PlaceGate + Sync>(
     rt: &R,
     alloc: Global,
     setting: &Setting,
@@ -193,6 +197,7 @@ fn settle_by_advice<N: Notes + Send, R: Threads + Sync, G: PlaceGate>(
         (λ s. AreTurned setting.now batch.now (joined_lists lists.items) (joined_lists s.lists.items) s.replies.items) }
     ensures notes { IfOk result
         (λ s. AreNotesOf N.worker N.keeps N.places workers (length batch.now.instructions) s.notes.items) }
+    ensures worked { IfOk result (λ s. WereSettledBy batch.now workers) }
 {
     let cut = cut_lists(alloc, lists, regions_wanted(workers, batch.len()))?;
     let advice = advise(rt, alloc, &cut, batch, workers);

@@ -68,7 +68,7 @@ fn lengths(rt: &impl Abort, alloc: Global, shifts: &[WorkShift]) -> String {
 }
 
 // The same of each of so many workers on a day, which leaves what its instructions leave one after another.
-fn shifts<R: Abort + Threads + Sync, G: PlaceGate>(
+fn shifts<R: Abort + Threads + Sync, G: PlaceGate + Sync>(
     rt: &R,
     alloc: Global,
     instructions: &str,

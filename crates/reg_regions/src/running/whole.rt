@@ -12,6 +12,7 @@ ghost use Rattle.reg_regions.specs.Dealing.{AreTurned};
 ghost use Rattle.reg_regions.specs.Homes.{AreHome};
 ghost use Rattle.reg_regions.specs.Lists.{joined_lists};
 ghost use Rattle.reg_regions.specs.Stealing.{AreNotesOf};
+ghost use Rattle.reg_regions.specs.Working.{WereSettledBy};
 
 use crate::advice::lists::join_lists;
 use crate::dealing::Deal;
@@ -29,7 +30,7 @@ use std::thread::Threads;
 ///
 /// # Errors
 /// `NoMemory` if memory ran out.
-pub(crate) fn settle_whole<N: Notes + Send, R: Threads + Sync, G: PlaceGate>(
+pub(crate) fn settle_whole<N: Notes + Send, R: Threads + Sync, G: PlaceGate + Sync>(
     rt: &R,
     alloc: Global,
     setting: &Setting,
@@ -48,6 +49,7 @@ pub(crate) fn settle_whole<N: Notes + Send, R: Threads + Sync, G: PlaceGate>(
         (λ s. AreTurned setting.now batch.now (joined_lists lists.items) (joined_lists s.lists.items) s.replies.items) }
     ensures notes { IfOk result
         (λ s. AreNotesOf N.worker N.keeps N.places workers (length batch.now.instructions) s.notes.items) }
+    ensures worked { IfOk result (λ s. WereSettledBy batch.now workers) }
 {
     let joined = join_lists(alloc, lists, &[])?;
     let accounts = only_list(alloc, joined)?;

@@ -3,8 +3,8 @@ use Rattle.reg_front.specs.Made.{text_made}
 use Rattle.reg_front.proofs.Reports.{reported}
 use Rattle.reg_front.proofs.texts.make_report.Goals as goal
 
-pub returns : goal.returns
-returns g c =
+pub returns-clause-text : goal.returns-clause-text
+returns-clause-text g c =
     let closed = c.in_ok-closed.closed in
     let used = c.in_ok-used.used in
     reported c.log_is_made_again.ensures (day_of_parts c.args.day) closed.parts closed.replies.items

@@ -1,6 +1,5 @@
 use Rattle.std.proofs.Common.{◌≡◌, ◌∷◌, rules, sym, subst, All}
 use Rattle.std.proofs.lemmas.List.Elements.{All-head, All-tail}
-use Rattle.reg_account.specs.Account.{AccountValue}
 use Rattle.reg_rules.specs.State.{State, numbers}
 use Rattle.reg_regions.specs.Homes.{AreKnown}
 use Rattle.reg_regions.proofs.admission.accounts.+are_listed_home.Goals as goal

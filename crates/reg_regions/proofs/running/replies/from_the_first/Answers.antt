@@ -1,4 +1,4 @@
-use Rattle.std.proofs.Common.{◌≡◌, rules, ◌++◌, ◌∷◌, [], sym, subst, Vec, Global}
+use Rattle.std.proofs.Common.{◌≡◌, rules, sym, subst, Vec, Global}
 use Rattle.std.specs.Prelude.{All, Contains}
 use Rattle.std.specs.declared.vec.IntoIter.{IntoIter}
 use Rattle.std.proofs.lemmas.List.Elements.{All-nil, All-push, All-head, All-tail, Contains-get_or}

@@ -1,9 +1,9 @@
-use Rattle.std.proofs.Common.{◌≡◌, ◌+◌, ◌<◌, ◌∷◌, [], Global, length, get_or, sym, ap, subst, ◌∙◌, arith}
-use Rattle.std.specs.Prelude.{All, Contains, slice_index_or}
+use Rattle.std.proofs.Common.{◌≡◌, ◌+◌, Global, sym, ap, subst, arith}
+use Rattle.std.specs.Prelude.{All, Contains}
 use Rattle.std.proofs.lemmas.List.Elements.{All-head, All-tail, All-set}
 use Rattle.std.specs.declared.vec.IntoIter.{IntoIter}
 use Rattle.reg_regions.specs.declared.instruction.Placed.{Placed}
-use Rattle.reg_regions.specs.Dealing.{AreInPlaces, AreLeftOf}
+use Rattle.reg_regions.specs.Dealing.{AreInPlaces}
 use Rattle.reg_regions.specs.Lists.{joined_lists}
 use Rattle.reg_regions.proofs.Replying.{none-in_places, more-in_places}
 use Rattle.reg_regions.proofs.running.replies.in_places.Goals as goal

@@ -7,17 +7,17 @@ use Rattle.reg_book.specs.Indexes.{index_lists}
 use Rattle.reg_regions.specs.declared.dealing.Deal.{Deal}
 use Rattle.reg_regions.specs.Homes.{AreHome}
 use Rattle.reg_regions.specs.Settling.{IsRun}
-use Rattle.reg_regions.proofs.running.worker.run_claimed.Goals as goal
+use Rattle.reg_regions.proofs.running.settling.settle_region.Goals as goal
 
 pub settle_gated-requires-clause-ready : goal.settle_gated-requires-clause-ready
-settle_gated-requires-clause-ready g c κs inside =
+settle_gated-requires-clause-ready g c =
     let n = c.args.region.number in
     let within = c.args.region.within in
     subst (IsReady (c.args.batch.now.base + 1)) (sym (c.deref_mut.ensures.value ∙ c.args.region.opening))
     (c.requires.ground.ready (n - 1) (omega (arith, within.0, within.1)))
 
 pub settle_gated-requires-clause-home : goal.settle_gated-requires-clause-home
-settle_gated-requires-clause-home g c κs inside =
+settle_gated-requires-clause-home g c =
     let n = c.args.region.number in
     let setting = c.args.setting.now in
     let batch = c.args.batch.now in

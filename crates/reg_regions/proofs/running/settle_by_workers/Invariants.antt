@@ -1,7 +1,0 @@
-use Rattle.reg_claim.specs.Seats.{table_id}
-use Rattle.reg_deques.specs.Yards.{deques}
-use Rattle.reg_regions.proofs.running.settle_by_workers.Given as goal
-
--- the table and the deques are those of the arguments
-abbrev pub ghosts-run_dealt : goal.ghosts-run_dealt
-ghosts-run_dealt g a = record { table = table_id a.table; deques = deques a.yard }
