@@ -7,17 +7,16 @@
   determined      the figure as it was last determined; empty if it was not
   figure          the figure as it would be determined now; empty if emissions are missing
   verdict         one of these:
-    compliant          the determined figure is 0 or more, and so is the one of now
-    missing N          N allowances are missing now
-    emissions missing  of the years that are named there is no entry, so there is no figure
-    short but not assessed
-                       allowances are missing now, and no figure of the year was determined
-    not assessed       no figure of the year was determined, and nothing is missing
-    surrendered since  the determined figure is below 0, and as much was surrendered since, also for later years: assess
-                       the year again
-    outdated           emissions up to the year, or the correction factor, changed after the figure was determined:
-                       assess the year again
-    excluded           no figure is determined for an excluded account
+    compliant               the determined figure is 0 or more, and so is the one of now
+    missing N               N allowances are missing now
+    emissions missing       of the years that are named there is no entry, so there is no figure
+    short but not assessed  allowances are missing now, and no figure of the year was determined
+    not assessed            no figure of the year was determined, and nothing is missing
+    surrendered since       the determined figure is below 0, and as much was surrendered since, also for later years:
+                            assess the year again
+    outdated                emissions up to the year, or the correction factor, changed after the figure was determined:
+                            assess the year again
+    excluded                no figure is determined for an excluded account
 
 Without --year it is the last year that is over on the day, of any period. REPORT must be that of DAY.
 
