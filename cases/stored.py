@@ -22,6 +22,8 @@ FAULT_STATUS = 3
 PARTS = (".csv", ".args", ".stdout", ".stderr", ".status")
 # What the scripts of a folder share, and what Python makes of it.
 MODULES = (".py", ".pyc", ".java")
+# And these belong to scripts.
+OF_SCRIPTS = {"README.md", "version-1-folders.tar.xz"}
 ESCAPES = {b"n": b"\n", b"r": b"\r", b"\\": b"\\"}
 
 
@@ -183,7 +185,7 @@ def trials_of_file(path: Path) -> Iterator[tuple[str, Tried]]:
     elif path.suffix in PARTS:
         if not path.with_suffix(".csv").exists():
             yield path.name, Wrong("it belongs to no case")
-    elif path.name != "README.md" and path.suffix not in MODULES and not path.name.startswith("run-"):
+    elif path.name not in OF_SCRIPTS and path.suffix not in MODULES and not path.name.startswith("run-"):
         yield path.name, Wrong("it belongs to no case")
 
 
