@@ -11,7 +11,7 @@ from unittest import mock
 
 from damaged_office import Trial, Words, inside
 from harness import TOP, Said, differs
-from offices import events_of, must_do, rows_of, text_of
+from offices import events_of, must_do, must_do_either, rows_of, text_of
 
 from registry_tools.store.texts import Texts
 
@@ -107,8 +107,7 @@ def equal_trials(work: Path, office: Path, what: str) -> Iterator[Trial]:
 def letters_of(work: Path, words: Words) -> dict[str, str]:
     """The packages for all holders, by the names of their files. What waits since earlier days only a folder knows."""
     made = work / "letters"
-    said = Said("send", made, *words)
-    assert said.status == 0, said
+    must_do_either(["send", str(made), *map(str, words)])
     texts = {path.name: without_head(path) for path in made.iterdir()}
     shutil.rmtree(made)
     return texts
@@ -143,7 +142,7 @@ def unread_trials(work: Path, office: Path) -> Iterator[Trial]:
         with mock.patch.object(Texts, "get", autospec=True, side_effect=Texts.get) as get:
             said = Said(*words, "--office", office)
         unpacked = [own.args[1][:12] for own in get.call_args_list if own.args[1] in reports]
-        yield f"{words[0]} unpacks no day before the last one", differs(unpacked, []) if said.status == 0 else said
+        yield f"{words[0]} unpacks no day before the last one", differs(unpacked, []) if said.status in (0, 1) else said
 
 
 def named_trials(work: Path, office: Path) -> Iterator[Trial]:

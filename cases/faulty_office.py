@@ -247,7 +247,7 @@ def left_trials(work: Path) -> Iterator[Trial]:
         (path / "5501.html").write_text("a letter\n")
     for path in (*gone[1:], *kept[1:]):
         path.write_text("mine\n")
-    must_do(["send", str(there / "sent"), *own])
+    must_do_either(["send", str(there / "sent"), *own])
     yield "what is left", differs(sorted(path.name for path in there.iterdir()), sorted([*names(kept), "sent"]))
 
 
@@ -319,7 +319,7 @@ def sent_trials(work: Path) -> Iterator[Trial]:
     """Letters of a day that may still be undone, and with names that were changed since."""
     office, own = two_days(work, "sent")
     has = [f"LOOK AT THIS: {DAY} is not released: it may be undone behind its letters"]
-    yield "send of a day that is not released", told(0, has, "send", work / "sent-1", *own)
+    yield "send of a day that is not released", told(1, has, "send", work / "sent-1", *own)
     doubt = [f"--release: {DAY} was settled by the second answer alone, not proved; ./day release {DAY} --yes"]
     letters: Words = ["send", "--release", *own]
     yield "send --release of what nothing proves", unchanged(office, 2, doubt, *letters, work / "sent-2")

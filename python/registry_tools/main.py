@@ -4,6 +4,7 @@ import contextlib
 import difflib
 import gc
 import importlib
+import os
 import re
 import signal
 import sqlite3
@@ -78,7 +79,8 @@ The office round the program: the work of each day that needs no proof.
 TAIL = """
 There `--day DATE` stands in place of the paths of a day and its report: verify, statements, compliance, page, log,
 explain, export.
-./day COMMAND --help explains a command, with an example. ./day --version tells the version.
+./day COMMAND --help explains a command, with an example. ./day --version tells the version. ./day -C FOLDER COMMAND ..
+runs the command in FOLDER; --office FOLDER may stand before it, too.
 
 exit status: 0 it is as it has to be, 1 something was found, 2 the words do not fit, 3 a file is not what it must be:
 then standard error has its name, the line, the field, what was found and what was expected. 5 standard output did not
@@ -89,6 +91,8 @@ take all, or standard input is a folder. 130 somebody interrupted it.
 # Behind this word stands the folder of a desk, in whose words all is told, and a file into which the command writes
 # what came of it.
 FOR_DESK = "--for-desk"
+# Before the command: the folder in which it is run, and the folder of days, as if it stood behind it.
+FOLDER, OFFICE = "-C", "--office"
 
 
 class Command(Protocol):
@@ -201,10 +205,15 @@ def main(arguments: list[str]) -> int:
         return streams.write(tool, help_text(), NOT_WRITTEN)
     if arguments[:1] in (["-V"], ["--version"]):
         return streams.write(tool, f"{tool} of registry {tables.VERSION}\n", NOT_WRITTEN)
+    if arguments[:1] == [FOLDER]:
+        return in_folder(tool, arguments[1:])
     if not arguments:
         print(help_text(), end="", file=sys.stderr)
         return 2
-    name, *rest = arguments
+    name, *rest = behind_command(arguments) or [""]
+    if not name:
+        print(f"{tool}: there is no command behind {' '.join(arguments)}", file=sys.stderr)
+        return 2
     if name not in COMMANDS and name not in OFFICE_COMMANDS:
         print(f"{perhaps_meant(name)}{tool}: there is no command {name}; {tool} --help tells all", file=sys.stderr)
         return 2
@@ -220,6 +229,26 @@ def main(arguments: list[str]) -> int:
         return cannot_go_on(voice.command(name), error)
     except KeyboardInterrupt:
         return 130
+
+
+def in_folder(tool: str, arguments: list[str]) -> int:
+    """Runs the words behind a folder in which they are run, and answers the exit status."""
+    if not arguments:
+        print(f"{tool}: {FOLDER} takes a folder, and has nothing behind it", file=sys.stderr)
+        return 2
+    try:
+        os.chdir(arguments[0])
+    except OSError as error:
+        print(f"{tool}: {FOLDER} {arguments[0]}: {error.strerror}", file=sys.stderr)
+        return 2
+    return main(arguments[1:])
+
+
+def behind_command(arguments: list[str]) -> list[str]:
+    """The words with a folder of days that stands before the command behind it; none, if there is no command."""
+    places = 1 if arguments[0].startswith(f"{OFFICE}=") else 2 if arguments[0] == OFFICE else 0
+    named, rest = arguments[:places], arguments[places:]
+    return [rest[0], *named, *rest[1:]] if rest else []
 
 
 def cannot_go_on(name: str, error: OSError) -> int:

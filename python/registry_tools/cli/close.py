@@ -16,7 +16,7 @@ import argparse
 from registry_tools import voice
 from registry_tools.calendars import dates
 from registry_tools.cli import papers, words
-from registry_tools.errors import FOUND
+from registry_tools.errors import FOUND, WordsFault
 from registry_tools.office import close as closing, folder
 from registry_tools.office.approvals import AskedFor
 from registry_tools.office.close import Close, Doubts, Outcome
@@ -31,7 +31,8 @@ EXAMPLE = "./day close --date 2025-09-22 --second --office out/office"
 def add_words(parser: argparse.ArgumentParser) -> None:
     """Tells a parser the words of the command."""
     without = "without it, the command says which one comes next"
-    parser.add_argument("--date", metavar="DATE", help=f"the settlement day; {without}")
+    parser.add_argument("day", metavar="DATE", nargs="?", help=f"the settlement day; {without}")
+    parser.add_argument("--date", metavar="DATE", help="the same")
     parser.add_argument("--verify", action="store_true", help="work out all accounts once more")
     parser.add_argument("--second", action="store_true", help="settle by the second answer, without the program")
     parser.add_argument("--yes", action="store_true", help="file it, whatever is to be looked at")
@@ -42,7 +43,10 @@ def add_words(parser: argparse.ArgumentParser) -> None:
 def run(said: argparse.Namespace) -> int:
     """Runs the command, and answers the exit status."""
     words.one_line("who", said.who)
-    date = None if said.date is None else dates.date_of(voice.option("date"), said.date)
+    if said.day is not None and said.date is not None:
+        raise WordsFault(f"the day stands twice, as {said.day} and as {voice.option('date', said.date)}: name it once")
+    named = said.day if said.date is None else said.date
+    date = None if named is None else dates.date_of(voice.option("date"), named)
     with folder.opened(said.office) as office:
         came = closing.close(office, words.by(said, office), Close(date, said.second, said.verify, said.yes))
         if isinstance(came, AskedFor):

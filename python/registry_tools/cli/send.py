@@ -12,6 +12,8 @@ holder,NUMBER,NAME and account,NUMBER,NAME, in UTF-8. A letter tells the head of
 --pairs the days are those of paths, and the file of --pending says what waits since earlier ones.
 
 A day that is not released is told, since it may be undone behind its letters: --release releases it with them.
+
+exit status: 0 if the packages are made, 1 if they are, and their last day is not released.
 """
 import argparse
 import functools
@@ -19,7 +21,7 @@ from dataclasses import replace
 
 from registry_tools import voice
 from registry_tools.cli import asked, named, words
-from registry_tools.errors import WordsFault
+from registry_tools.errors import FOUND, WordsFault
 from registry_tools.notes import LOOK
 from registry_tools.office import folder, release
 from registry_tools.texts import labels
@@ -52,9 +54,9 @@ def add_words(parser: argparse.ArgumentParser) -> None:
 def run(said: argparse.Namespace) -> int:
     """Runs the command, and answers the exit status."""
     asked.must_be_one_place(said)
-    made = of_pairs(said) if said.pairs else of_folder(said)
+    made, status = (of_pairs(said), 0) if said.pairs else of_folder(said)
     print(f"{said.folder}: packages {made.holders}, accounts {made.accounts}")
-    return 0
+    return status
 
 
 def send_of(said: argparse.Namespace, own: days.Days) -> Send:
@@ -75,8 +77,9 @@ def of_pairs(said: argparse.Namespace) -> Sent:
     return send.send(own, named.labels_of(said), wanted, said.folder, lambda: None)
 
 
-def of_folder(said: argparse.Namespace) -> Sent:
-    """Makes the packages of a folder, and releases their last day with them, if the words ask for it."""
+def of_folder(said: argparse.Namespace) -> tuple[Sent, int]:
+    """Makes the packages of a folder, and releases their last day with them, if the words ask for it. Answers also the
+    exit status."""
     if said.pending:
         raise WordsFault("--pending is for --pairs: a folder knows what waits")
     with folder.opened(said.office) as office, days.telling_of_tables(office.store.path):
@@ -93,7 +96,8 @@ def of_folder(said: argparse.Namespace) -> Sent:
             way = voice.either("--release releases it with them", "its box on the page Send releases it")
             words.to_errors(f"{LOOK}: {day.date} is not released: it may be undone behind its letters; {way}")
         # (all letters are there, and get their names behind it: no day is taken back behind its letters)
-        return send.send(own, names, wanted, said.folder, functools.partial(keep, said, office, by, day))
+        made = send.send(own, names, wanted, said.folder, functools.partial(keep, said, office, by, day))
+        return made, 0 if is_released or said.release else FOUND
 
 
 def keep(said: argparse.Namespace, office: Office, by: By, day: Event) -> None:

@@ -37,7 +37,7 @@ PROGRESS, LONGEST_NAME = "\r\033[K", 60
 # Where a command puts files that somebody takes with him; the private folder of a desk, and its lock.
 MADE, PREFIX, LOCK = "made", "day-desk-", "lock"
 # The commands whose status says what they found, and not that they did nothing.
-FINDING = ("hand-in", "audit", "try", "status")
+FINDING = ("hand-in", "audit", "try", "status", "send")
 NOTHING = "Nothing was done."
 Started = subprocess.Popen[bytes]
 

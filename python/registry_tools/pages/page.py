@@ -4,6 +4,7 @@ import functools
 import gc
 import multiprocessing
 import os
+import shlex
 import signal
 from collections.abc import Collection, Iterator, Sequence
 from dataclasses import dataclass, field
@@ -146,8 +147,17 @@ def write_shared(numbers: list[int]) -> int:
     return SHARED[0](numbers)
 
 
+def must_have_no_pages(path: str | Path) -> None:
+    """Says the way out if a folder has the pages of an earlier day."""
+    if Path(path, DAY).is_file() and Path(path, "accounts").is_dir():
+        fault = FileFault(path, 0, "", "a folder with pages in it", "a folder that is not there yet, or is empty")
+        fault.way = f"name another one, or take these away first: rm -r {shlex.quote(str(path))}"
+        raise fault
+
+
 def make(path: str | Path, asked: Page) -> int:
     """Makes the pages in a folder that is not there yet, or empty, and answers how many there are."""
+    must_have_no_pages(path)
     with NewFolder(path) as folder:
         day, report = read_pair(asked.day, asked.report)
         history = read_history(asked.history, day)

@@ -5,12 +5,14 @@ import io
 import re
 from dataclasses import dataclass, field
 
+from registry_tools.errors import FileFault
 from registry_tools.texts.rows import Rows, bytes_of, records_of, rows_of_text
 
 # What stands at the start of a text of 16 bits a character, and how it is read.
 MARKS = {b"\xff\xfe": "utf-16-le", b"\xfe\xff": "utf-16-be"}
 # What nobody sees round a field, beside blanks: a byte order mark, and characters without width.
 UNSEEN = "\ufeff\u200b\u200c\u200d\u2060"
+CONTROLS = {*range(32)} - {*b"\t\r\n"}
 SEPARATORS = {";": "semicolons", "\t": "tabs"}
 # Where this is nowhere in a text with commas, there is nothing to mend.
 MAY_BE_MENDED = re.compile(rf'[^\S\r\n]|[{UNSEEN}]|^,|,$|,\r|,""', re.MULTILINE)
@@ -45,12 +47,20 @@ class Mended:
         return stream.getvalue()
 
 
-def decoded(content: bytes) -> tuple[str, str]:
-    """A text, and the name of its encoding if it is not the one that it must have."""
+def is_text(start: bytes) -> bool:
+    """Whether a file with this start may be a text: nearly all of its bytes, or of 16 bits a character every other one,
+    stand for letters."""
+    return any(sum(byte in CONTROLS for byte in half) * 20 <= len(half) for half in (start[::2], start[1::2]))
+
+
+def decoded(path: str, content: bytes) -> tuple[str, str]:
+    """A text, and the name of its encoding if it is not the one that it must have. Raises FileFault if it is none."""
     for mark, encoding in MARKS.items():
         if content.startswith(mark):
             return content[len(mark) :].decode(encoding, "replace"), "UTF-16"
     start = content[:200]
+    if not is_text(start):
+        raise FileFault(path, 0, "", "bytes that stand for no letters: it is no text", "a text, such as a day text")
     if start.count(0) * 3 > len(start):
         encoding = "utf-16-le" if start[1:2] == b"\0" else "utf-16-be"
         return content.decode(encoding, "replace"), "UTF-16"
@@ -76,7 +86,7 @@ def stripped(word: str) -> str:
 
 def mended(path: str) -> Mended:
     """The text of a file, mended."""
-    text, encoding = decoded(bytes_of(path))
+    text, encoding = decoded(path, bytes_of(path))
     changes: list[Change] = []
     if encoding:
         changes.append((1, f"the file is {encoding}, and must be UTF-8 or plain ASCII"))
