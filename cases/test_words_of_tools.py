@@ -61,7 +61,8 @@ def test_letters_of_a_day_that_may_be_undone(tmp_path: Path) -> None:
     assert (first.status, first.errors.startswith("LOOK AT THIS: 2025-03-31 is not released")) == (1, True)
     assert second.status == 2 and Said("release", "2025-03-31", "--why", "x", "--yes", *office).status == 0
     assert Said("send", tmp_path / "third", *office).status == 0
-    assert {path.name for path in (tmp_path / "first").iterdir()} == {path.name for path in (tmp_path / "third").iterdir()}
+    made = [sorted(path.name for path in (tmp_path / name).iterdir()) for name in ("first", "third")]
+    assert made[0] == made[1] and made[0]
 
 
 def test_pages_over_earlier_pages(tmp_path: Path) -> None:
@@ -85,6 +86,7 @@ def test_a_file_that_is_no_text(tmp_path: Path, mend: list[str]) -> None:
         assert (said.status, said.errors) == (3, f"{path}: found bytes that stand for no letters: it is no text; "
                                                  "expected a text, such as a day text\n")  # fmt: skip
     text = MORNING.read_text()
-    for name, content in {"16": text.encode("utf-16-le"), "big": text.encode("utf-16-be"), "nul": b"\0" + text.encode()}.items():
+    others = {"16": text.encode("utf-16-le"), "big": text.encode("utf-16-be"), "nul": b"\0" + text.encode()}
+    for name, content in others.items():
         (tmp_path / name).write_bytes(content)
         assert "it is no text" not in Said("explain", tmp_path / name, *mend).errors

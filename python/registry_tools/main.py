@@ -28,6 +28,7 @@ COMMANDS = {
     "explain": "says what is wrong with a day text, and mends what a spreadsheet did to it",
     "log": "writes the logs of reports as one table with a header",
     "compliance": "shows which operators are compliant for a year, and why others are not",
+    "reconcile": "compares somebody's list of balances with the accounts after a day",
     "page": "makes HTML pages of a settled day: the day, compliance, accounts, and the rules",
     "completion": "writes what a shell needs to complete the words of ./day and ./run",
     "man": "writes the manual page",
@@ -54,6 +55,7 @@ OFFICE_COMMANDS = {
     "find": "finds log rows over all days: of an account, a user, an act, what was refused",
     "balance": "shows what an account held after a day",
     "history": "shows all that became of an account",
+    "diff": "shows in what two days differ, of one folder or of two",
     "db": "makes a database of all days, for questions in SQL",
     "unpack": "writes its texts as plain files, with their SHA-256",
     "backup": "makes a copy of its file, also while others work on it",
@@ -77,9 +79,9 @@ The office round the program: the work of each day that needs no proof.
 
 """
 TAIL = """
-There `--day DATE` stands in place of the paths of a day and its report: verify, statements, compliance, page, log,
-explain, export.
-./day COMMAND --help explains a command, with an example. ./day --version tells the version. ./day -C FOLDER COMMAND ..
+There `--day DATE` stands in place of the paths of a day and its report: verify, statements, compliance, reconcile,
+page, log, explain, export.
+./day COMMAND --help explains a command, with an example. ./day --version tells the version. ./day -C FOLDER COMMAND
 runs the command in FOLDER; --office FOLDER may stand before it, too.
 
 exit status: 0 it is as it has to be, 1 something was found, 2 the words do not fit, 3 a file is not what it must be:

@@ -286,6 +286,7 @@ COLUMNS = {
     "find": columns("date #record proposed #proposer #approver act #from #to kind #amount #year outcome status"),
     "due": columns("date what #account #record text"),
     "balance": columns("after #account kind #held #surrendered #deleted"),
+    "diff": columns("what #account field first second"),
     "history": columns("date #record what outcome #general #aviation"),
     "changes": columns("day at who approved why change"),
     "label": columns("kind #number name at who why"),
@@ -296,6 +297,7 @@ COLUMNS = {
     "compliance": columns(
         "#account kind #holder status #year #surrendered #emissions #correction #determined #figure verdict #missing"
     ),
+    "reconcile": columns("what #account field file day"),
     "verify": columns("day report #instructions #accounts is_so file #line field found expected"),
     "audit": columns("file #line field found expected"),
     "status": columns("what date #record #place who at text"),

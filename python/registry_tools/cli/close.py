@@ -7,17 +7,19 @@ filed with --yes.
 The first day has its own date. --second settles by the second answer (tools/rules.py) in place of the program: then
 nothing is proved. If office.ini says so, statements and pages are made, in FOLDER/days/DATE/statements and pages.
 Nothing is changed if something is wrong; what was refused is told, and is no reason not to close. What the program says
-beside the report, such as that it is not proved, is told too.
+beside the report, such as that it is not proved, is told too. So is what the program of after_close in office.ini says,
+which is run behind a day that is filed, with its date and the head of the folder.
 
 exit status: 0 if the day is filed, 1 if something is to be looked at first.
 """
 import argparse
+import sys
 
 from registry_tools import voice
 from registry_tools.calendars import dates
 from registry_tools.cli import papers, words
 from registry_tools.errors import FOUND, WordsFault
-from registry_tools.office import close as closing, folder
+from registry_tools.office import close as closing, folder, hooks
 from registry_tools.office.approvals import AskedFor
 from registry_tools.office.close import Close, Doubts, Outcome
 from registry_tools.second import rules
@@ -48,6 +50,7 @@ def run(said: argparse.Namespace) -> int:
     named = said.day if said.date is None else said.date
     date = None if named is None else dates.date_of(voice.option("date"), named)
     with folder.opened(said.office) as office:
+        hooks.must_be_safe(office)
         came = closing.close(office, words.by(said, office), Close(date, said.second, said.verify, said.yes))
         if isinstance(came, AskedFor):
             return words.tell_asked_for(came)
@@ -58,6 +61,9 @@ def run(said: argparse.Namespace) -> int:
         words.to_errors(f"settled by {came.settled.engine}\nhead: {office.events.head}")
         print("\n".join([*summary(came.outcome, said.second), *came.left]))
         papers.make_papers(office, came.event)
+        sys.stdout.flush()
+        for line in hooks.after_close(office, came.event):
+            words.to_errors(line)
     return 0
 
 

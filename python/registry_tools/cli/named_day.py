@@ -20,7 +20,8 @@ from registry_tools.store.past import kept, pair_of
 # The commands that take them, and what each takes of a day.
 PAIR, REPORTS, TEXT = "pair", "reports", "text"
 TAKES = {
-    **dict.fromkeys(("verify", "statements", "compliance", "page", "export"), PAIR), "log": REPORTS, "explain": TEXT,
+    **dict.fromkeys(("verify", "statements", "compliance", "reconcile", "page", "export"), PAIR),
+    "log": REPORTS, "explain": TEXT,
 }  # fmt: skip
 # Those that show names.
 TAKE_NAMES = ("page", "compliance")

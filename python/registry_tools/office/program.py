@@ -1,5 +1,5 @@
-"""The program that office.ini names. A command runs it with the rights of whoever gives the command: so it does only if
-nobody else could have named or changed it but them, the owner of the folder and root.
+"""The programs that office.ini names. A command runs one with the rights of whoever gives the command: so it does only
+if nobody else could have named or changed it but them, the owner of the folder and root.
 
 Whoever may write a folder on the way may put another program there, and whoever may write FOLDER another office.ini.
 The variable REGISTRY_PROGRAMS names programs, and folders of programs, that are run all the same.
@@ -26,9 +26,14 @@ MOST_LINKS = 40
 def named_program(office: Office) -> str:
     """The program that office.ini names; nothing, if it names none. Raises FileFault if others could have named or
     changed it."""
-    named = office.settings.program
+    must_be_ours(office, "program", office.settings.program)
+    return office.settings.program
+
+
+def must_be_ours(office: Office, name: str, named: str) -> None:
+    """Raises FileFault if others could have named or changed the program that office.ini names by this name."""
     if not named or is_let(named):
-        return named
+        return
     trusted = {os.getuid(), os.stat(office.path).st_uid, ROOT}
     for path in (office.path / SETTINGS, Path(shutil.which(named) or named)):
         for step in way_to(path):
@@ -36,8 +41,7 @@ def named_program(office: Office) -> str:
             if who:
                 out = f"take that right away, or {VARIABLE}={named} lets you run it"
                 expected = f"one that nobody else can change, and {step} may be written by {who}: {out}"
-                raise FileFault(office.path / SETTINGS, 0, "program", named, expected)
-    return named
+                raise FileFault(office.path / SETTINGS, 0, name, named, expected)
 
 
 def is_let(named: str) -> bool:

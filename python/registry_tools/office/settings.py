@@ -13,8 +13,10 @@ from registry_tools.office.people import People
 LAYOUT, SECTION = "1", "office"
 # The section that names the key by which anchors are signed.
 ANCHOR, KEY = "anchor", "key"
+# The section that names programs which are run behind commands.
+HOOKS, AFTER_CLOSE = "hooks", "after_close"
 # What office.ini has: another section would be one that nobody reads.
-SECTIONS = (SECTION, deadlines.SECTION, ANCHOR, people.SECTION, people.FOUR_EYES)
+SECTIONS = (SECTION, deadlines.SECTION, ANCHOR, HOOKS, people.SECTION, people.FOUR_EYES)
 # What it names under [office].
 NAMES = ("layout", "program", "statements", "pages", "verify")
 
@@ -35,6 +37,8 @@ class Settings:
     key: Path | None = None
     # Who may do what, and what waits for a second one.
     people: People = People()
+    # The program that is run behind `close`; empty: none.
+    after_close: str = ""
 
     def text(self) -> str:
         """The text of office.ini."""
@@ -73,7 +77,10 @@ def read(path: Path) -> Settings:
     due = deadlines.read(path, parser)
     verifies = "verify" in section and is_yes(path, section, "verify")
     key, named = key_of(path, parser), people.read(path, text)
-    return Settings(section.get("program", ""), makes_statements, makes_pages, verifies, due, key, named)
+    hooks = dict(parser[HOOKS]) if HOOKS in parser else {}
+    must_be_known(path, f"[{HOOKS}]", hooks, (AFTER_CLOSE,))
+    behind = hooks.get(AFTER_CLOSE, "")
+    return Settings(section.get("program", ""), makes_statements, makes_pages, verifies, due, key, named, behind)
 
 
 def key_of(path: Path, parser: configparser.ConfigParser) -> Path | None:
