@@ -267,7 +267,8 @@ def changed_by_others(base: Owned) -> Attempts:
         for words in (CLOSE, ["audit", "--settle"]):
             yield f"a program {name}, {words[0]}", not_run(base, has, *words)
         settings.write_text(f"{own}[hooks]\nafter_close = {program}\n")
-        yield f"a program {name}, after close", not_run(base, [has[0].replace("program", "after_close"), has[1]], *CLOSE)
+        behind = ["office.ini: after_close: found ", has[1]]
+        yield f"a program {name}, after close", not_run(base, behind, *CLOSE)
     let = replace(base, let={"REGISTRY_PROGRAMS": "/nowhere"})
     yield "although another one is let", not_run(let, has, *CLOSE)
     settings.write_text(own.replace(str(RULES), str(planted(base, bert, rooms["sticky"] / "mine"))))

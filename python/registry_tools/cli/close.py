@@ -17,9 +17,9 @@ import sys
 
 from registry_tools import voice
 from registry_tools.calendars import dates
-from registry_tools.cli import papers, words
+from registry_tools.cli import hooks, papers, words
 from registry_tools.errors import FOUND, WordsFault
-from registry_tools.office import close as closing, folder, hooks
+from registry_tools.office import close as closing, folder
 from registry_tools.office.approvals import AskedFor
 from registry_tools.office.close import Close, Doubts, Outcome
 from registry_tools.second import rules

@@ -39,7 +39,7 @@ def run(said: argparse.Namespace) -> int:
     if len(dates) > 2:
         raise WordsFault(f"found {len(dates)} dates; expected two")
     with sides_of_pairs(said, dates) if said.pairs else sides_of_folders(said, dates) as (first, second, names):
-        found = diff.differences(first, second)
+        found = diff.differences_of_days(first, second)
         rows = [[own.what, own.account, own.field, own.first, own.second] for own in found]
     shown = asked.rows_shown(said, COLUMNS, rows, names)
     as_table = showing.as_table(COLUMNS.names, shown, COLUMNS.numbers)

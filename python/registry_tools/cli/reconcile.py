@@ -42,7 +42,7 @@ def run(said: argparse.Namespace) -> int:
         print("\n".join(importing.told([*found.wrong], "nothing was compared")), file=sys.stderr)
         return FILE
     day, report = read_pair(said.day, said.report)
-    unlike = reconciling.unlike(found, report.book)
+    unlike = reconciling.unlike_accounts(found, report.book)
     rows: list[list[Cell]] = [
         [own.what, own.account, own.field, own.file, own.day]
         for own in unlike if not (said.listed and own.what == reconciling.ONLY_DAY)

@@ -2,7 +2,8 @@
 statement of each as csv.
 
 FOLDER gets HOLDER.html and HOLDER-ACCOUNT.csv, and must not be there before. What others own, decide or tried is in
-none of them, and no page leads to another one. Each account begins with what waits and what was refused. With --from
+none of them, and no page leads to another one. A page begins with who sends it ([sender] of office.ini: name, mail),
+and what to do by when ([due] there). Each account begins with what waits and what was refused. With --from
 the statements begin on an earlier day: what was not due or was refused then, and was done later, is told as done later.
 An account that had another holder on one of these days begins with the first day of its holder of the last one; the
 statement of the other holder is made with --day.
@@ -46,6 +47,10 @@ def add_words(parser: argparse.ArgumentParser) -> None:
     named.add_words(parser)
     waits = "with --pairs: the pending file of ./day next, behind the last of them"
     parser.add_argument("--pending", metavar="FILE", help=waits)
+    eml = "make a message of each package, too, HOLDER.eml, which a mail program opens as a draft"
+    parser.add_argument("--eml", action="store_true", help=eml)
+    mails = "with --eml: to whom the messages are, a row HOLDER,ADDRESS for each address"
+    parser.add_argument("--mails", metavar="FILE", help=mails)
     parser.add_argument("--release", action="store_true", help="release the day with its letters")
     asked.add_words(parser)
     words.add_who(parser)
@@ -64,7 +69,10 @@ def send_of(said: argparse.Namespace, own: days.Days) -> Send:
     words_of = (voice.option("from"), said.begin), (voice.option("day"), said.day)
     begin, end = (asked.date_or(name, word, None) for name, word in words_of)
     first, last = send.span_of(own.dates, begin, end)
-    return Send(first, last, tuple(said.holder) if said.holder else None, said.pending)
+    if said.mails is not None and not said.eml:
+        raise WordsFault("--mails is for --eml")
+    holders = tuple(said.holder) if said.holder else None
+    return Send(first, last, holders, said.pending, as_messages=said.eml, mails=said.mails)
 
 
 def of_pairs(said: argparse.Namespace) -> Sent:
@@ -87,7 +95,8 @@ def of_folder(said: argparse.Namespace) -> tuple[Sent, int]:
         wanted = send_of(said, own)
         day = office.events.day_of(wanted.end)
         assert day is not None  # (it is one of the dates)
-        wanted = replace(wanted, pending=kept(office.store, day, "waiting"))
+        settings, waiting = office.settings, kept(office.store, day, "waiting")
+        wanted = replace(wanted, pending=waiting, sender=settings.sender, due=settings.due)
         names = office.names() if said.labels is None else labels.read(said.labels)
         by, is_released = words.by(said, office), office.events.is_released(day)
         if not is_released and said.release:

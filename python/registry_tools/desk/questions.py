@@ -21,7 +21,7 @@ from registry_tools.desk import gate
 from registry_tools.desk.gate import Served
 from registry_tools.desk.reading import Reading
 from registry_tools.desk.shown import TYPED, asked, number_asked, row_of_taken, show_page
-from registry_tools.errors import WordsFault
+from registry_tools.errors import FOUND, WordsFault
 from registry_tools.notes import BY_HAND
 from registry_tools.office import approvals
 from registry_tools.pages import compliance as standing
@@ -317,7 +317,7 @@ def job(served: Served, number: str) -> Any:
     leads = ("/", "Today") if there.is_fault() else BEHIND.get(there.command, ("/", "Today"))
     if there.status == 0 and there.command == "close":
         leads = (f"/days/{date}", "To the day")
-    if there.status == 0 and there.made():
+    if there.status in (0, FOUND) and there.made():
         leads = (f"/jobs/{number}/packages.zip", "Download the packages")
     return show_page(
         "job", voice.page_of(there.command), job=there, status=there.status, leads=leads,
@@ -328,7 +328,7 @@ def job(served: Served, number: str) -> Any:
 def packages(served: Served, number: str) -> Response:
     """What `send` has made, as one file."""
     there = served.jobs.jobs.get(number)
-    if there is None or there.status != 0 or not there.made():
+    if there is None or there.status not in (0, FOUND) or not there.made():
         raise NotFound
     content = io.BytesIO()
     with zipfile.ZipFile(content, "w", zipfile.ZIP_DEFLATED) as archive:

@@ -9,6 +9,8 @@ from registry_tools.calendars.deadlines import DueDates
 from registry_tools.errors import FileFault, must_be_known, of_file, shown
 from registry_tools.office import people
 from registry_tools.office.people import People
+from registry_tools.texts import sender
+from registry_tools.texts.sender import Sender
 
 LAYOUT, SECTION = "1", "office"
 # The section that names the key by which anchors are signed.
@@ -16,7 +18,7 @@ ANCHOR, KEY = "anchor", "key"
 # The section that names programs which are run behind commands.
 HOOKS, AFTER_CLOSE = "hooks", "after_close"
 # What office.ini has: another section would be one that nobody reads.
-SECTIONS = (SECTION, deadlines.SECTION, ANCHOR, HOOKS, people.SECTION, people.FOUR_EYES)
+SECTIONS = (SECTION, deadlines.SECTION, ANCHOR, HOOKS, sender.SECTION, people.SECTION, people.FOUR_EYES)
 # What it names under [office].
 NAMES = ("layout", "program", "statements", "pages", "verify")
 
@@ -39,6 +41,8 @@ class Settings:
     people: People = People()
     # The program that is run behind `close`; empty: none.
     after_close: str = ""
+    # Whom letters come from.
+    sender: Sender = Sender()
 
     def text(self) -> str:
         """The text of office.ini."""
@@ -80,7 +84,8 @@ def read(path: Path) -> Settings:
     hooks = dict(parser[HOOKS]) if HOOKS in parser else {}
     must_be_known(path, f"[{HOOKS}]", hooks, (AFTER_CLOSE,))
     behind = hooks.get(AFTER_CLOSE, "")
-    return Settings(section.get("program", ""), makes_statements, makes_pages, verifies, due, key, named, behind)
+    makes = makes_statements, makes_pages, verifies
+    return Settings(section.get("program", ""), *makes, due, key, named, behind, sender.read(path, parser))
 
 
 def key_of(path: Path, parser: configparser.ConfigParser) -> Path | None:

@@ -3,13 +3,18 @@ it that belongs to others."""
 import datetime
 import re
 from collections.abc import Iterator, Sequence
+from dataclasses import dataclass
 
 from registry_tools.calendars.due_days import NOT_DUE
+from registry_tools.texts.sender import Sender
 from registry_tools.texts.labels import ACCOUNT
 from registry_tools.pages.account import entry_parts, facts_of, refused_parts, standing_parts, waiting_parts
-from registry_tools.pages.html import HEAD, PARTS, Cells, Markup, Table, facts, heading, joined, style_of, tag
+from registry_tools.pages.html import (
+    HEAD, PARTS, Cells, Markup, Table, facts, heading, items, joined, paragraph, style_of, tag,
+)  # fmt: skip
 from registry_tools.pages.rulebook import Rulebook
 from registry_tools.pages.settled import Settled, long_date
+from registry_tools.pages.tasks import Task
 from registry_tools.pages.statement import OF_ANOTHER, DayTold, Own, Statement
 from registry_tools.texts.checks import MEANING, Check, form_words, without_marks
 from registry_tools.texts.own import OwnRow
@@ -29,6 +34,7 @@ LINES = {
     "closing": "what the account held after",
     "end": "nothing more comes, so the table is whole",
 }
+TO_DO, NOTHING_TO_DO = "What to do", "Nothing has to be done."
 KEPT = "Keep this page: by its head an auditor sees whether a day up to it was changed later."
 # Sentences that only an administrator can do something about.
 OF_OFFICE = re.compile(
@@ -163,29 +169,47 @@ def section_of(
     return Markup(f"<section>{sheet}</section>")
 
 
-def page_of(title: str, lead: str, sections: list[Markup]) -> str:
+def page_of(title: str, lead: str, sections: list[Markup], above: tuple[Markup, ...] = ()) -> str:
     """A page that leads nowhere else, and that prints."""
-    body = f"<main id='main'>\n{tag('h1', title)}\n{tag('p', lead)}\n{joined(*sections)}\n</main>"
+    body = f"<main id='main'>\n{joined(*above, tag('h1', title), tag('p', lead), *sections)}\n</main>"
     style = style_of("colours", "style") + "".join(make() for name, make in PARTS.items() if name in body) + STYLE
     head = f"{HEAD}<title>{tag('x', title)[3:-4]}</title>\n<style>{style}</style>\n</head>\n"
     return f"{head}<body>\n{body}\n</body>\n</html>\n"
 
 
+@dataclass
+class Letter:
+    """The page of a holder, and what it begins with: its title, of which days it is, and what is to be done."""
+
+    title: str
+    lead: str
+    tasks: list[str]
+    page: str = ""
+
+
 def letter(
     settled: Settled, days: Sequence[DayTold], holder: int, places: dict[int, int], head: str,
-    tables: dict[int, tuple[str, str]],
-) -> str:  # fmt: skip
-    """The page of a holder: each account from the day at its place on, with the name and the sum of its table; and the
-    head of the folder that it was made of."""
+    tables: dict[int, tuple[str, str]], sender: Sender, tasks: dict[int, list[Task]],
+) -> Letter:  # fmt: skip
+    """The page of a holder: each account from the day at its place on, with the name and the sum of its table; the head
+    of the folder that it was made of, who sends it, and what is to be done for each account."""
     name = settled.names.holder(holder)
     sections: list[Markup] = []
+    todo: list[str] = []
     for number, place in places.items():
         statement = LetterStatement(settled, number, days[place:])
         is_last = len(sections) + 1 == len(places)
         sections.append(section_of(settled, statement, name, place > 0, tables[number], is_last))
+        todo += [str(task) for task in tasks.get(number, [])]
+        if statement.refused:
+            todo.append(f"Read below what was refused, and what to do (account {number}).")
     begin, end = days[0].date, days[-1].date
     lead = f"From {long_date(begin)} to {long_date(end)}." if begin != end else f"{long_date(end)}."
-    return page_of(f"Holder {name}", f"{lead} {head_in_words(head)}{f' {KEPT}' if head else ''}".rstrip(), sections)
+    lead = f"{lead} {head_in_words(head)}{f' {KEPT}' if head else ''}".rstrip()
+    made = Letter(f"Holder {name}", lead, todo or [NOTHING_TO_DO])
+    todo_parts = [heading(TO_DO), items(made.tasks)]
+    made.page = page_of(made.title, lead, [*todo_parts, *sections], (paragraph(f"From {sender}."),))
+    return made
 
 
 def head_in_words(head: str) -> str:

@@ -5,13 +5,17 @@ from collections.abc import Callable
 from dataclasses import dataclass
 
 from registry_tools import voice
+from registry_tools.calendars.deadlines import DueDates
 from registry_tools.errors import WordsFault
 from registry_tools.texts.labels import Labels
 from registry_tools.output import NewFolder
 from registry_tools.pages.html import Frame
+from registry_tools.texts.sender import Sender
 from registry_tools.pages.letter import LetterWords, letter
+from registry_tools.pages.mail import addresses_of, message, must_be_of
 from registry_tools.pages.settled import Settled
 from registry_tools.pages.statement import DayOfAccounts
+from registry_tools.pages.tasks import tasks_of
 from registry_tools.progress import progress
 from registry_tools.questions.accounts import excerpts
 from registry_tools.questions.days import Days
@@ -32,6 +36,12 @@ class Send:
     end: datetime.date
     holders: tuple[int, ...] | None = None
     pending: str | None = None
+    # Whom the letters come from, and by when holders have to do something.
+    sender: Sender = Sender()
+    due: DueDates = DueDates()
+    # Whether messages are made, too, and the file with the addresses of holders.
+    as_messages: bool = False
+    mails: str | None = None
 
 
 @dataclass(frozen=True)
@@ -105,17 +115,24 @@ def send(days: Days, names: Labels, asked: Send, folder: str, keep: Callable[[],
     past_day = days.day(dates[-1])
     last, waiting = DayTold(past_day), waiting_of(asked.pending, past_day)
     settled = Settled(last.day, last.report, LetterWords(), Frame([]), (), waiting, names)
-    holders = accounts_of(last.report, asked.holders)
+    holders, tasks = accounts_of(last.report, asked.holders), tasks_of(asked.due, last.day, last.report)
+    mails = addresses_of(asked.mails) if asked.mails is not None else {}
+    must_be_of(asked.mails or "", accounts_of(last.report, None), mails)
+    span = " to ".join(dict.fromkeys((str(dates[0]), str(dates[-1]))))
     with NewFolder(folder) as made:
         for holder, numbers in progress.over(holders.items(), "writing the packages", len(holders), step=1):
             told = [*map(DayTold, excerpts(days, dates[:-1], numbers)), last]
             places = places_by_number(told, numbers)
             texts = {number: statement_from(told[place:], number) for number, place in places.items()}
             tables = {number: (f"{holder}-{number}.csv", sum_of(text.encode())) for number, text in texts.items()}
-            own = [day.told for day in told]
-            made.write(f"{holder}.html", letter(settled, own, holder, places, days.head, tables))
-            for number, text in texts.items():
-                made.write(tables[number][0], text)
+            own = letter(settled, [day.told for day in told], holder, places, days.head, tables, asked.sender, tasks)
+            files = {f"{holder}.html": own.page, **{tables[number][0]: text for number, text in texts.items()}}
+            for name, text in files.items():
+                made.write(name, text)
+            if asked.as_messages:
+                words = own.title, own.lead, own.tasks
+                to = mails.get(holder, [])
+                made.write_bytes(f"{holder}.eml", message(holder, span, asked.sender, to, words, files))
         keep()
     return Sent(len(holders), sum(map(len, holders.values())))
 

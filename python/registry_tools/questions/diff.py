@@ -56,9 +56,9 @@ class Difference:
     second: str | None
 
 
-def differences(first: Side, second: Side) -> list[Difference]:
+def differences_of_days(first: Side, second: Side) -> list[Difference]:
     """All in which two days differ, by what it is, and by account; nothing, if they are alike."""
-    was, becomes = facts_of(first), facts_of(second)
+    was, becomes = facts_after(first), facts_after(second)
     accounts = accounts_of(first), accounts_of(second)
     found = [*of_accounts(*accounts)]
     for key in dict.fromkeys([*was, *becomes]):
@@ -85,7 +85,7 @@ def of_accounts(was: dict[int, tuple[str, ...]], becomes: dict[int, tuple[str, .
         yield from (Difference(ACCOUNT, number, field, was, now) for field, was, now in pairs if was != now)
 
 
-def facts_of(side: Side) -> dict[Key, str]:
+def facts_after(side: Side) -> dict[Key, str]:
     """What a day has, by what it is, by account and name: its rules, the lists and balances of its accounts, and what
     came of its instructions."""
     date = {"date": str(side.date)}

@@ -25,6 +25,8 @@ from registry_tools.texts.report import Report
 COLUMNS = tables.COLUMNS["due"]
 DEADLINE, OVERDUE, REVERSAL, LIST = "deadline", "overdue", "reversal ends", "list takes effect"
 WAITING, MISSED, CALENDAR = "waiting", "working day", "calendar ends"
+# What the holder of an account has to do of which so many allowances are missing for a year.
+SURRENDER_FOR = "Surrender {} allowances for {}"
 # A year has deadlines in the next one: so those of these years, counted back from the last day, may still come.
 YEARS_BACK = (1, 0)
 
@@ -37,6 +39,8 @@ class Due(NamedTuple):
     account: int | None
     record: int | None
     text: str
+    # Of a deadline, what the holder of the account has to do.
+    todo: str = ""
 
     def cells(self) -> list[Cell]:
         """The columns."""
@@ -106,10 +110,12 @@ def of_standing(
     holder = names.holder(str(account.holder))
     if standing.verdict == NO_EMISSIONS and (date := emissions or surrender):
         lacking = ", ".join(map(str, standing.years_without_emissions))
-        yield Due(date, DEADLINE, account.number, None, f"emissions of {lacking} are not entered: holder {holder}")
+        text = f"emissions of {lacking} are not entered: holder {holder}"
+        yield Due(date, DEADLINE, account.number, None, text, f"Report the emissions of {lacking}")
     if standing.missing and surrender:
         missing = grouped(standing.missing)
-        yield Due(surrender, DEADLINE, account.number, None, f"{missing} are missing for {year}: holder {holder}")
+        todo = SURRENDER_FOR.format(missing, year)
+        yield Due(surrender, DEADLINE, account.number, None, f"{missing} are missing for {year}: holder {holder}", todo)
 
 
 def of_rows(day: DayText, report: Report, names: Labels) -> Iterator[Due]:

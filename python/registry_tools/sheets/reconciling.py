@@ -5,8 +5,7 @@ from dataclasses import dataclass, replace
 
 from registry_tools.errors import FileFault, shown
 from registry_tools.second import faults
-from registry_tools.sheets import columns
-from registry_tools.sheets.importing import found_in, told_of
+from registry_tools.sheets import columns, importing
 from registry_tools.sheets.mapping import Mapping
 from registry_tools.sheets.sheet import Sheet
 from registry_tools.sheets.table import Table
@@ -44,7 +43,7 @@ def listed(sheet: Sheet, mapping: Mapping = Mapping()) -> Listed:
     """The accounts that a table lists, with the words and amounts that a day text has."""
     table = Table(sheet, columns.ACCOUNT_COLUMNS, None, replace(mapping, columns={**ALSO, **mapping.columns}))
     wrong = [*table.wrong_heading(), *lacking(table)]
-    found = [] if wrong else [*found_in(rows_of(table))]
+    found = [] if wrong else [*importing.found_in(accounts_in(table))]
     wrong += [own for own in found if isinstance(own, FileFault)]
     has = [name for name in OTHERS if name in table.columns or name in mapping.always]
     return Listed(has, dict(own for own in found if not isinstance(own, FileFault)), wrong)
@@ -58,7 +57,7 @@ def lacking(table: Table) -> Iterator[FileFault]:
         yield table.sheet.fault_at("row 1", "heading", shown(", ".join(table.headings)), expected)
 
 
-def rows_of(table: Table) -> Iterator[tuple[int, Cells] | FileFault]:
+def accounts_in(table: Table) -> Iterator[tuple[int, Cells] | FileFault]:
     """The cells of each account, or what is wrong with them."""
     rows: dict[str, int] = {}
     for row, own in table.rows():
@@ -81,10 +80,10 @@ def wrong_cells(table: Table, row: int, said: Cells) -> Iterator[FileFault]:
             if word or name == NUMBER:
                 field.read(word)
         except faults.Fault:
-            yield told_of(table, row, name, shown(word), field.expected, word)
+            yield importing.told_of(table, row, name, shown(word), field.expected, word)
 
 
-def unlike(found: Listed, book: Known[int, Block]) -> list[Unlike]:
+def unlike_accounts(found: Listed, book: Known[int, Block]) -> list[Unlike]:
     """All in which a list and the accounts after a day are not alike, by account."""
     return [own for number in sorted({*found.accounts, *book}) for own in of_account(found, number, book.get(number))]
 
