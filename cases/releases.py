@@ -25,6 +25,7 @@ PARTS = [
     "lib/libregistry.so.1", "lib/pkgconfig/registry.pc", "include/registry.h", "share/man/man1/registry.1",
     "share/man/man1/registry-day.1", "share/man/man3/registry.3", "share/man/man5/registry-day-text.5",
     "share/bash-completion/completions/registry", "share/bash-completion/completions/registry-day",
+    "share/fish/vendor_completions.d/registry-day.fish",
     "share/zsh/site-functions/_registry", "share/zsh/site-functions/_registry-day", "share/doc/registry/RULES.md",
     "src/rust/Cargo.toml", "src/java/registry_jni.c", "src/python/notebook.ipynb", "src/first-transfer.csv", "README",
     "INSTALL", "CHANGELOG.md", "MANIFEST", "SHA256SUMS", "install", "registry.spdx.json",
@@ -130,7 +131,8 @@ def completion_fault(folder: Path) -> object:
             f"source {file}; COMP_WORDS=({command} {begun}); COMP_CWORD=1; "
             f"$(complete -p {command} | sed 's/.*-F \\([^ ]*\\) .*/\\1/') ; echo \"${{COMPREPLY[*]}}\""
         )
-        said = answer_of(["bash", "-c", script])
+        # (the words of ./day are asked of the program)
+        said = answer_of(["env", f"PATH={folder}/bin:{os.environ['PATH']}", "bash", "-c", script])
         if said[0].split()[:1] != [wanted.encode()]:
             return f"{command}: {said}"
         if shutil.which("zsh"):

@@ -124,7 +124,7 @@ class Tree:
             path.write_text(re.sub(r"^#!.*", "#!/usr/bin/python3 -IB", path.read_text(), count=1))
         self.put("share/registry/registry_tools", "usr/share/registry/registry_tools")
         self.put("share/registry/registry.source", "usr/share/registry/registry.source")
-        for shell in ("bash-completion", "zsh"):
+        for shell in ("bash-completion", "zsh", "fish"):
             self.put(f"share/{shell}", f"usr/share/{shell}")
         zsh = self.folder / "usr/share/zsh"
         (zsh / "site-functions").rename(zsh / "vendor-completions")

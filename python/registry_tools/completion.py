@@ -1,14 +1,31 @@
-"""Writes what a shell needs to complete the words of ./day and ./run: load it as the example does.
+"""Writes what a shell needs to complete the words of ./day and ./run: load it as the example does. Of ./day it
+completes values, too: acts, names of checks, and the dates and accounts of the folder.
 
 It is made of the same parsers that read the words.
 """
 import argparse
+import contextlib
+import shlex
+import sqlite3
 import sys
+from collections.abc import Iterator, Sequence
+from pathlib import Path
 
-from registry_tools import parsers
+from registry_tools import installed, parsers, tables
+from registry_tools.errors import FileFault, WordsFault
+from registry_tools.main import ASK
 
+TOP = Path(__file__).resolve().parents[2]
 EXAMPLE = "source <(./day completion bash)"
-SHELLS = ("bash", "zsh")
+SHELLS = ("bash", "zsh", "fish")
+# Of more accounts nobody reads a list.
+MOST_SHOWN = 500
+# The values that all folders have, by the names that helps have for them.
+KNOWN = {
+    "ACT": [act.word for act in tables.ACTS], "NAME": [check.name for check in tables.CHECKS],
+    "DATE": [], "ACCOUNT": [],
+}  # fmt: skip
+ACCOUNTS = "SELECT DISTINCT account FROM accounts_by_day WHERE account LIKE ? || '%' ORDER BY account LIMIT ?"
 
 
 def add_words(parser: argparse.ArgumentParser) -> None:
@@ -16,13 +33,91 @@ def add_words(parser: argparse.ArgumentParser) -> None:
     parser.add_argument("shell", choices=SHELLS, help="the shell")
 
 
+# The words with which a line of ./day may go on.
+
+
+def answer(words: Sequence[str]) -> int:
+    """Writes the words with which a line goes on, one below another: none, if a folder cannot be asked."""
+    with contextlib.suppress(SystemExit, WordsFault, FileFault, OSError, sqlite3.Error, BrokenPipeError):
+        sys.stdout.write("".join(f"{word}\n" for word in words_behind([word for word in words if word != "="])))
+        sys.stdout.flush()
+    return 0
+
+
+def words_behind(words: Sequence[str]) -> list[str]:
+    """The words that may stand in place of the last one of a line, whose program is left out."""
+    from registry_tools import main
+
+    place = 0
+    while len(words) > place + 2 and words[place] in (main.FOLDER, main.OFFICE):
+        place += 2
+    before, line = words[:place], words[place:]
+    if line[0] in (main.FOLDER, main.OFFICE):
+        return []
+    if len(line) < 2:
+        return [*parsers.descriptions(), main.FOLDER, main.OFFICE, "--help", "--version"]
+    name, current = line[0], line[-1]
+    if name not in parsers.descriptions():
+        return []
+    parser = main.parser_of(name, main.module_of(name), main.named_day.is_named(name, [*line[1:-1]]))
+    if current.startswith("-"):
+        return parsers.options_of(parser)
+    option = next((own for own in parser._actions if line[-2] in own.option_strings), None)  # noqa: SLF001
+    positional = [own for own in parser._actions if not own.option_strings]  # noqa: SLF001
+    asked = [option] if option is not None and option.nargs != 0 else positional
+    return [*dict.fromkeys(word for own in asked for word in values_of(own, current, [*before, *line]))]
+
+
+def values_of(action: argparse.Action, begin: str, line: Sequence[str]) -> Iterator[str]:
+    """What may stand for an option or a word: what the parser takes, or what the folder of the line has."""
+    yield from map(str, action.choices or KNOWN.get(str(action.metavar), ()))
+    if action.metavar in ("DATE", "ACCOUNT"):
+        from registry_tools.office import composing, folder
+
+        with folder.opened(folder_in(line)) as office:
+            last = office.last()
+            if action.metavar == "DATE" and "close" in line and last:
+                # (only a later day is closed)
+                yield from (str(date) for date in composing.filed_calendar(office, last) if date > last.date)
+            elif action.metavar == "DATE":
+                yield from (str(event.date) for event in office.store.events.days)
+            else:
+                yield from (str(number) for (number,) in office.store.db.execute(ACCOUNTS, (begin, MOST_SHOWN)))
+
+
+def folder_in(line: Sequence[str]) -> str | None:
+    """The folder that a line names."""
+    parser = argparse.ArgumentParser(add_help=False, allow_abbrev=False)
+    parser.add_argument("-C", dest="place", default="")
+    parser.add_argument("--office")
+    said, _ = parser.parse_known_args(line[:-1])
+    return said.office if said.office is None and not said.place else str(Path(said.place, said.office or ""))
+
+
+# What shells read.
+
+
 def cases_of(of: dict[str, list[str]]) -> str:
     """The options of each command as the arms of a case."""
     return "".join(f"    {name}) words='{' '.join(options)}' ;;\n" for name, options in of.items())
 
 
-BASH = """\
-_registry_{name}() {{
+# (`compgen -W` reads its words as a shell does: those of a folder are numbers and dates alone. The program is not the one
+# that is typed, which somebody may have put where one stands: it is run before anybody asks for it.)
+BASH_DAY = """\
+_registry_day() {{
+  local word=${{COMP_WORDS[COMP_CWORD]}} words
+  words=$({program} {ask} "${{COMP_WORDS[@]:1:COMP_CWORD}}" 2>/dev/null)
+  COMPREPLY=($(compgen -W "$words" -- "$word"))
+  case $COMP_CWORD$word in
+  1* | *-*) ;;
+  *) COMPREPLY+=($(compgen -f -- "$word")) ;;
+  esac
+}}
+complete -o filenames -F _registry_day {called}
+"""
+BASH_RUN = """\
+_registry_run() {{
   local words word=${{COMP_WORDS[COMP_CWORD]}}
   if [ "$COMP_CWORD" = 1 ]; then
     words='{commands}'
@@ -31,57 +126,82 @@ _registry_{name}() {{
 {cases}    *) words= ;;
     esac
   fi
-  case $word in
-  -*) COMPREPLY=($(compgen -W "$words" -- "$word")) ;;
-  *) COMPREPLY=($(compgen -W "$words" -- "$word") $(compgen -f -- "$word")) ;;
-  esac
+  COMPREPLY=($(compgen -W "$words" -- "$word"))
 }}
-complete -o filenames -F _registry_{name} {called}
+complete -F _registry_run {called}
 """
 # One command for zsh, as a file of a folder in which it looks for such.
-ZSH = """\
+ZSH_DAY = """\
 #compdef {called}
-local -a words
+local -a found
+found=("${{(@f)$({program} {ask} "${{(@)words[2,CURRENT]}}" 2>/dev/null)}}")
+compadd -- $found
+(( CURRENT == 2 )) || _files
+"""
+ZSH_RUN = """\
+#compdef {called}
+local -a found
 if (( CURRENT == 2 )); then
-  words=({commands})
+  found=({commands})
 else
-  case ${{words_of_line[2]}} in
-{cases}    *) words=() ;;
+  case ${{words[2]}} in
+{cases}    *) found=() ;;
   esac
 fi
-compadd -- $words
-_files
+compadd -- $found
 """
-# How the commands are called, in a checkout and in an installation.
-CALLED = {"day": "./day day registry-day", "run": "./run run registry"}
+FISH_DAY = "complete {called} -a '({program} {ask} (commandline -opc)[2..-1] (commandline -ct) 2>/dev/null)'\n"
+FISH_RUN = "complete {called} -f -n \"{when}\" -a '{words}'\n"
+# How the commands are called, in a checkout and in an installation: none by a bare word that others may have, too.
+DAY, RUN = ("./day", "registry-day"), ("./run", "registry")
 
 
 def text_of(shell: str) -> str:
-    """The lines that a shell reads."""
+    """The lines that a shell reads of a checkout, or of an installation."""
+    is_checkout = installed.is_checkout()
+    day, run = (TOP / "day", TOP / "run") if is_checkout else (Path(DAY[1]), Path(RUN[1]))
+    if shell == "fish":
+        told = [f"-p {path}" if is_checkout else f"-c {path}" for path in (day, run)]
+        return fish_of_day(told[0], str(day)) + fish_of_run(told[1], parsers.options_of_run())
     start = "autoload -U +X bashcompinit && bashcompinit\n" if shell == "zsh" else ""
-    parts = []
-    for name, of in (("day", parsers.options_of_day()), ("run", parsers.options_of_run())):
-        parts.append(bash_of(name, of))
-    return start + "\n".join(parts)
+    return start + bash_of_day(" ".join(DAY), str(day)) + "\n" + bash_of_run(" ".join(RUN), parsers.options_of_run())
 
 
-def bash_of(name: str, of: dict[str, list[str]]) -> str:
-    """What bash needs to complete the words of one command."""
-    return BASH.format(name=name, commands=" ".join([*of, "--help"]), cases=cases_of(of), called=CALLED[name])
+def bash_of_day(called: str, program: str) -> str:
+    """What bash needs to complete the words of ./day: it asks the program for them."""
+    return BASH_DAY.format(called=called, program=shlex.quote(program), ask=ASK)
+
+
+def bash_of_run(called: str, of: dict[str, list[str]]) -> str:
+    """What bash needs to complete the words of ./run."""
+    return BASH_RUN.format(commands=" ".join([*of, "--help"]), cases=cases_of(of), called=called)
+
+
+def fish_of_day(called: str, program: str) -> str:
+    """What fish needs to complete the words of ./day."""
+    return FISH_DAY.format(called=called, program=shlex.quote(program).replace("'", "\\'"), ask=ASK)
+
+
+def fish_of_run(called: str, of: dict[str, list[str]]) -> str:
+    """What fish needs to complete the words of ./run."""
+    first = FISH_RUN.format(called=called, when="__fish_is_first_arg", words=" ".join([*of, "--help"]))
+    others = ((name, " ".join(words)) for name, words in of.items() if words)
+    seen = "__fish_seen_subcommand_from {}"
+    return first + "".join(FISH_RUN.format(called=called, when=seen.format(own), words=words) for own, words in others)
 
 
 def files() -> dict[str, str]:
     """What an installation has in the folders in which shells look for the words of a command."""
-    made = {}
-    for name, of in (("day", parsers.options_of_day()), ("run", parsers.options_of_program())):
-        called = CALLED[name].split()[-1]
-        made[f"bash-completion/completions/{called}"] = bash_of(name, of)
-        cases = cases_of(of).replace("words='", "words=(").replace("' ;;", ") ;;")
-        zsh = ZSH.format(called=called, commands=" ".join([*of, "--help"]), cases=cases)
-        # (zsh has the words of the line in `words` itself)
-        text = zsh.replace("words", "found").replace("found_of_line", "words")
-        made[f"zsh/site-functions/_{called}"] = text
-    return made
+    (day, run), of = (DAY[1], RUN[1]), parsers.options_of_program()
+    cases = cases_of(of).replace("words='", "found=(").replace("' ;;", ") ;;")
+    return {
+        f"bash-completion/completions/{day}": bash_of_day(day, day),
+        f"bash-completion/completions/{run}": bash_of_run(run, of),
+        f"zsh/site-functions/_{day}": ZSH_DAY.format(called=day, program=day, ask=ASK),
+        f"zsh/site-functions/_{run}": ZSH_RUN.format(called=run, commands=" ".join([*of, "--help"]), cases=cases),
+        f"fish/vendor_completions.d/{day}.fish": fish_of_day(f"-c {day}", day),
+        f"fish/vendor_completions.d/{run}.fish": fish_of_run(f"-c {run}", of),
+    }
 
 
 def run(said: argparse.Namespace) -> int:

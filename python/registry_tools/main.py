@@ -93,6 +93,8 @@ take all, or standard input is a folder. 130 somebody interrupted it.
 # Behind this word stands the folder of a desk, in whose words all is told, and a file into which the command writes
 # what came of it.
 FOR_DESK = "--for-desk"
+# Behind this word stands a line that a shell completes.
+ASK = "--complete"
 # Before the command: the folder in which it is run, and the folder of days, as if it stood behind it.
 FOLDER, OFFICE = "-C", "--office"
 
@@ -197,6 +199,8 @@ def main(arguments: list[str]) -> int:
         with contextlib.suppress(OSError):
             outcomes.write(Path(arguments[2]), status)
         return status
+    if arguments[:1] == [ASK] and arguments[1:]:
+        return importlib.import_module("registry_tools.completion").answer(arguments[1:])
     tool = streams.names["./day"]
     if arguments[:1] == ["help"]:
         arguments = [*arguments[1:2], "--help"]
