@@ -97,8 +97,10 @@ def test_files_of_an_installation(office: Path, tmp_path: Path, name: str) -> No
     (tmp_path / "file").write_text(text)
     path = {**os.environ, "PATH": f"{tmp_path}:{os.environ['PATH']}", "REGISTRY_OFFICE": str(office)}
     asked = {
-        "bash": "source ./file; COMP_WORDS=(registry-day balance 90000); COMP_CWORD=2; _registry_day; echo ${COMPREPLY[@]}",
-        "zsh": "compadd() { shift; print -- $@ }; _files() { : }; words=(registry-day balance 90000); CURRENT=3; . ./file",
+        "bash": "source ./file; COMP_WORDS=(registry-day balance 90000); COMP_CWORD=2; _registry_day;"
+                " echo ${COMPREPLY[@]}",
+        "zsh": "compadd() { shift; print -- $@ }; _files() { : }; words=(registry-day balance 90000); CURRENT=3;"
+               " . ./file",
         "fish": "source ./file; complete -C 'registry-day balance 90000'",
     }[shell]  # fmt: skip
     run = subprocess.run([shell, "-c", asked], cwd=tmp_path, env=path, capture_output=True, text=True, check=False)

@@ -187,8 +187,9 @@ def test_a_wrong_sender(office: Path, tmp_path: Path, lines: str, told: str) -> 
 
 @pytest.mark.parametrize("rows, told", {
     "5501,a@example.org\n5502\n": "mails.csv:2: row: found '5502'; expected HOLDER,ADDRESS",
-    "5501,\"a@b.example\nBcc: x@y.example\"\n": "mails.csv:1: mail: found 'a@b.example<line feed>Bcc: x@y.example",
-    "5501,Anna <a@example.org>\n": "mail: found 'Anna <a@example.org>'", "9,a@example.org\n": "HOLDER: found 9; expected",
+    "5501,\"a@b.example\nBcc: x@y.example\"\n": "mails.csv:1: mail: found 'a@b.example<line feed>Bcc: x@y.e",
+    "5501,Anna <a@example.org>\n": "mail: found 'Anna <a@example.org>'",
+    "9,a@example.org\n": "HOLDER: found 9; expected",
     "x,a@example.org\n": "row: found 'x,a@example.org'",
 }.items())  # fmt: skip
 def test_wrong_addresses(office: Path, tmp_path: Path, rows: str, told: str) -> None:

@@ -12,6 +12,7 @@ from collections.abc import Iterator, Sequence
 from pathlib import Path
 
 from registry_tools import installed, parsers, tables
+from registry_tools.cli import named_day
 from registry_tools.errors import FileFault, WordsFault
 from registry_tools.main import ASK
 
@@ -59,7 +60,7 @@ def words_behind(words: Sequence[str]) -> list[str]:
     name, current = line[0], line[-1]
     if name not in parsers.descriptions():
         return []
-    parser = main.parser_of(name, main.module_of(name), main.named_day.is_named(name, [*line[1:-1]]))
+    parser = main.parser_of(name, main.module_of(name), named_day.is_named(name, [*line[1:-1]]))
     if current.startswith("-"):
         return parsers.options_of(parser)
     option = next((own for own in parser._actions if line[-2] in own.option_strings), None)  # noqa: SLF001
@@ -70,7 +71,7 @@ def words_behind(words: Sequence[str]) -> list[str]:
 
 def values_of(action: argparse.Action, begin: str, line: Sequence[str]) -> Iterator[str]:
     """What may stand for an option or a word: what the parser takes, or what the folder of the line has."""
-    yield from map(str, action.choices or KNOWN.get(str(action.metavar), ()))
+    yield from map(str, action.choices if action.choices is not None else KNOWN.get(str(action.metavar), []))
     if action.metavar in ("DATE", "ACCOUNT"):
         from registry_tools.office import composing, folder
 
@@ -102,8 +103,8 @@ def cases_of(of: dict[str, list[str]]) -> str:
     return "".join(f"    {name}) words='{' '.join(options)}' ;;\n" for name, options in of.items())
 
 
-# (`compgen -W` reads its words as a shell does: those of a folder are numbers and dates alone. The program is not the one
-# that is typed, which somebody may have put where one stands: it is run before anybody asks for it.)
+# (`compgen -W` reads its words as a shell does: those of a folder are numbers and dates alone. The program is not the
+# one that is typed, which somebody may have put where one stands: it is run before anybody asks for it.)
 BASH_DAY = """\
 _registry_day() {{
   local word=${{COMP_WORDS[COMP_CWORD]}} words

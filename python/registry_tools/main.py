@@ -200,7 +200,8 @@ def main(arguments: list[str]) -> int:
             outcomes.write(Path(arguments[2]), status)
         return status
     if arguments[:1] == [ASK] and arguments[1:]:
-        return importlib.import_module("registry_tools.completion").answer(arguments[1:])
+        answered: int = importlib.import_module("registry_tools.completion").answer(arguments[1:])
+        return answered
     tool = streams.names["./day"]
     if arguments[:1] == ["help"]:
         arguments = [*arguments[1:2], "--help"]

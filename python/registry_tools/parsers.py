@@ -38,11 +38,6 @@ def options_of(parser: argparse.ArgumentParser) -> list[str]:
     return sorted(option for action in shown for option in action.option_strings if option.startswith("--"))
 
 
-def options_of_day() -> dict[str, list[str]]:
-    """The long options of each command of ./day."""
-    return {name: options_of(parser) for name, parser in all_of_day().items()}
-
-
 def options_of_program() -> dict[str, list[str]]:
     """The options of each command of the program."""
     return {**OF_PROGRAM, "--version": []}
