@@ -198,6 +198,7 @@ def engine_trials(work: Path) -> Iterator[Trial]:
     proved = "proved and built with kit 1\n"
     own_sum = f"sha256: {hashlib.sha256(program.read_bytes()).hexdigest()} program\n"
     other_sum = f"sha256: {hashlib.sha256(b'other').hexdigest()} program\n"
+    sum_of_it = own_sum.split()[1]
     for text, row, words in (
         ("", "program 1.9 - unproved", "the program 1.9, not proved"),
         (f"source: commit {COMMIT}, with changes\n{proved}{own_sum}", f"program 1.9 {COMMIT}+ proved",
@@ -211,10 +212,18 @@ def engine_trials(work: Path) -> Iterator[Trial]:
     ):  # fmt: skip
         note.write_text(text)
         yield f"close by {row}", told(0, [f"settled by {words}\n"], "close", "--date", DAY, *own)
-        yield f"its engine, {row}", differs(events_of(office, "engine", what="filed")[-1], row)
+        engine = f"{row} {sum_of_it}"
+        yield f"its engine, {row}", differs(events_of(office, "engine", what="filed")[-1], engine)
         status, says = (0, "is released") if row.endswith(" proved") else (1, f"{DAY} was settled by {words}")
         copy = shutil.copytree(office, work / "copy")
         yield f"release behind {row}", told(status, [says], "release", DAY, *why, "--office", copy)
+        note.write_text("")
+        doubts = [f"settled by a program whose SHA-256 begins {sum_of_it[:12]}, which no note of a build here has"]
+        asked: list[list[str]] = [] if status else [["release", DAY, *why], ["audit"]]
+        for command in asked:
+            shutil.rmtree(copy)
+            shutil.copytree(office, copy)
+            yield f"{command[0]} without the note of {row}", told(0, doubts, *command, "--office", copy)
         shutil.rmtree(copy)
         must_do(["undo", DAY, *why, *own])
     yield "a program that says no version", engine_fault(work)
@@ -226,7 +235,7 @@ def engine_fault(work: Path) -> object:
     program.write_text("#!/bin/sh\nexit 2\n")
     program.chmod(0o755)
     engine = settling.engine_of(str(program))
-    return differs(engine.row(), "program - - unproved")
+    return differs(engine.row(), f"program - - unproved {hashlib.sha256(program.read_bytes()).hexdigest()}")
 
 
 # What is left beside an answer.

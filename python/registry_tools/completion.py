@@ -22,9 +22,8 @@ SHELLS = ("bash", "zsh", "fish")
 # Of more accounts nobody reads a list.
 MOST_SHOWN = 500
 # The values that all folders have, by the names that helps have for them.
-KNOWN = {
+KNOWN: dict[str, list[str]] = {
     "ACT": [act.word for act in tables.ACTS], "NAME": [check.name for check in tables.CHECKS],
-    "DATE": [], "ACCOUNT": [],
 }  # fmt: skip
 ACCOUNTS = "SELECT DISTINCT account FROM accounts_by_day WHERE account LIKE ? || '%' ORDER BY account LIMIT ?"
 

@@ -46,6 +46,11 @@ def says_proved(told: str) -> bool:
     return NOT_PROVED.lower() not in told.lower() and PROVED_LINE.search(told) is not None
 
 
+def sums_in(told: str) -> list[str]:
+    """The SHA-256 of each file of a note of a build."""
+    return SUM_LINE.findall(told)
+
+
 def read(path: Path) -> tuple[str, bytes]:
     """The SHA-256 of a file, and its last bytes."""
     own, end = hashlib.sha256(), b""
@@ -66,7 +71,7 @@ def doubt_of(path: Path, own_sum: str, end: bytes, note: Path) -> str:
         return f"the note of its build, {note}, cannot be read: {error.strerror}"
     if not says_proved(told):
         return f"{note} does not say that {path} was proved"
-    sums = SUM_LINE.findall(told)
+    sums = sums_in(told)
     if not sums:
         return f"{note} has no SHA-256 of what was built: an older version wrote it"
     if own_sum not in sums:

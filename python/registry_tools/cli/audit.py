@@ -58,8 +58,8 @@ def run(said: argparse.Namespace) -> int:
     rows = map(showing.fault_row, found.faults)
     told = [*map(str, found.faults), found.summary(), ""]
     showing.show_or_tell(said, COLUMNS, rows, lambda: "\n".join(told))
-    there = found.office.events
-    for line in (*audit.engines_told(there), *audit.clock_told(there), *audit.people_told(there)):
+    there, program = found.office.events, found.office.settings.program
+    for line in (*audit.engines_told(there, program), *audit.clock_told(there), *audit.people_told(there)):
         print(line, file=sys.stderr)
     if found.faults and file.has_changed(path, found.office.events):
         meanwhile = f"another command changed {path} meanwhile, of which this may come: audit again"

@@ -15,6 +15,7 @@ from registry_tools.notes import LOOK
 from registry_tools.office import folder, release
 from registry_tools.office.approvals import AskedFor
 from registry_tools.office.release import Release, Unproved
+from registry_tools.pairs import settling
 from registry_tools.store.events import HEAD_DIGITS
 
 EXAMPLE = './day release 2025-09-24 --why "statements were sent" --office out/office'
@@ -36,11 +37,15 @@ def run(said: argparse.Namespace) -> int:
     date = None if said.day is None else dates.date_of("DATE", said.day)
     with folder.opened(said.office) as office:
         came = release.release(office, words.by(said, office), Release(date, why, said.yes))
+        filed = office.events.day_of(date) if date else None
+        doubt = settling.doubt_of_sum(filed.engine, office.settings.program) if filed else ""
     if isinstance(came, AskedFor):
         return words.tell_asked_for(came)
     if isinstance(came, Unproved):
         print(f"{LOOK}: {came.date} {came.doubt}\n{came.date} is not released, without {voice.option('yes')}")
         return FOUND
+    if doubt:
+        words.to_errors(f"{came.event.date} was settled by {doubt}")
     words.to_errors(f"head: {came.event.line[:HEAD_DIGITS]}")
     print(f"{came.event.date} is released: it is not undone any more")
     return 0

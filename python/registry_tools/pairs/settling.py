@@ -1,19 +1,21 @@
 """Settles a day text: by a program, by the library, or by the second answer (tools/rules.py); and says which engine it
-was, for the journal: as four words, such as `program 1.0 2cc76628abcd proved`.
+was, for the journal: as five words, such as `program 1.0 2cc76628abcd proved`, and a SHA-256 behind them.
 
   program, library, second   what settled the day
   its version                of the program; - if nothing tells it
   the commit of its sources  with a + behind it if they had changes; - if nothing tells it
   proved, unproved           whether its bytes were proved, by the note of its build
+  the SHA-256 of its bytes   - of the second answer, and in journals of before
 """
 import os
 import re
 import shutil
 import subprocess
+from collections.abc import Iterator
 from pathlib import Path
 from typing import NamedTuple
 
-from registry_tools import installed, proof, voice
+from registry_tools import engine, installed, proof, voice
 from registry_tools.engine import NotSettled, find_library, run_settle, tell_once
 from registry_tools.errors import WordsFault, of_file
 from registry_tools.progress import progress
@@ -22,6 +24,9 @@ from registry_tools.texts.day_text import DayText
 from registry_tools.texts.rows import text_of_rows
 
 RUN = installed.SCRIPT
+# What ./run starts: the program that was proved, with its note, or a build that was not; and the note of a library.
+BUILT, UNPROVED_BUILD = (RUN.parent / "out" / name for name in ("registry", "registry.unproved"))
+NOTE_OF_BUILT, NOTE_OF_LIBRARY = BUILT.with_name("registry.source"), "registry.source"
 BUILDS = "which builds the program first if it is not there"
 BY_RUN = f"{RUN}, {BUILDS}"
 PROGRAM, LIBRARY, SECOND = "program", "library", "second"
@@ -38,6 +43,7 @@ class Engine(NamedTuple):
     version: str = UNKNOWN
     commit: str = UNKNOWN
     proof: str = UNPROVED
+    sum: str = UNKNOWN
 
     def row(self) -> str:
         """The words by which the journal names it."""
@@ -60,13 +66,14 @@ SECOND_ANSWER = Engine(SECOND)
 def engine_named(row: str) -> Engine | None:
     """The engine that a line of the journal names, if it names one."""
     words = row.split(" ")
-    return Engine(*words) if len(words) == len(Engine._fields) else None
+    # (the sum came later than the others)
+    return Engine(*words) if 0 <= len(Engine._fields) - len(words) <= 1 else None
 
 
 def is_proved(row: str) -> bool:
     """Whether a line of the journal names a proved engine."""
-    engine = engine_named(row)
-    return engine is not None and engine.is_proved
+    own = engine_named(row)
+    return own is not None and own.is_proved
 
 
 def engine_of(named: str) -> Engine:
@@ -74,8 +81,8 @@ def engine_of(named: str) -> Engine:
     program = named or installed.program() or ""
     if not program and find_library() is not None:
         lies = Path(os.path.realpath(os.environ["REGISTRY_LIBRARY"]))
-        note = lies.with_name("registry.source")
-        return engine_by(LIBRARY, text_in(note), proof.build_of(lies, note).is_proved)
+        note = lies.with_name(NOTE_OF_LIBRARY)
+        return engine_by(LIBRARY, text_in(note), proof.build_of(lies, note))
     command = program or str(RUN)
     try:
         said = subprocess.run([command, "--version"], capture_output=True, timeout=MOST_SECONDS, check=False).stdout
@@ -86,17 +93,38 @@ def engine_of(named: str) -> Engine:
     told = said.decode("utf-8", "replace")
     if is_script:
         # (it compares the program that it starts with the note of its build)
-        return engine_by(PROGRAM, told, proof.says_proved(told))
+        started = BUILT if proof.says_proved(told) else UNPROVED_BUILD
+        return engine_by(PROGRAM, told, proof.build_of(started, NOTE_OF_BUILT))
     note = installed.note_of(path)
-    return engine_by(PROGRAM, f"{told}\n{text_in(note)}", proof.build_of(path, note).is_proved)
+    return engine_by(PROGRAM, f"{told}\n{text_in(note)}", proof.build_of(path, note))
 
 
-def engine_by(what: str, told: str, is_proved: bool) -> Engine:
-    """An engine by what is told of it: its version and the commit of its sources; and whether it was proved."""
+def engine_by(what: str, told: str, build: proof.Build) -> Engine:
+    """An engine by what is told of it, its version and the commit of its sources, and by its bytes."""
     version = re.search(r"^registry ([0-9]\S*)$", told, re.MULTILINE)
     commit = re.search(r"^source: commit ([0-9a-f]+)(, with changes)?$", told, re.MULTILINE)
     sources = commit[1] + ("+" if commit[2] else "") if commit else UNKNOWN
-    return Engine(what, version[1] if version else UNKNOWN, sources, PROVED if is_proved else UNPROVED)
+    is_so = PROVED if build.is_proved else UNPROVED
+    return Engine(what, version[1] if version else UNKNOWN, sources, is_so, build.sum or UNKNOWN)
+
+
+def doubt_of_sum(row: str, named: str) -> str:
+    """Of an engine that a line of the journal calls proved, that no note of a build here has its SHA-256, in words;
+    nothing, if one has, or if the journal tells none. `named` is the program that the folder names, which has a note,
+    too. (It may be the note of an older build that lacks.)"""
+    own = engine_named(row)
+    if own is None or not own.is_proved or own.sum in (UNKNOWN, *sums_here(named)):
+        return ""
+    return f"a program whose SHA-256 begins {own.sum[: proof.DIGITS]}, which no note of a build here has"
+
+
+def sums_here(named: str) -> Iterator[str]:
+    """The SHA-256 of all programs and libraries that the notes of builds here say are proved."""
+    programs = filter(None, (named and (shutil.which(named) or named), installed.program()))
+    libraries = filter(None, (engine.LIBRARY, installed.library()))
+    notes = [NOTE_OF_BUILT, *map(installed.note_of, programs), *(own.with_name(NOTE_OF_LIBRARY) for own in libraries)]
+    for told in map(text_in, notes):
+        yield from proof.sums_in(told) if proof.says_proved(told) else ()
 
 
 def text_in(path: Path) -> str:

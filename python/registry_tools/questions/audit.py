@@ -3,6 +3,7 @@ from what was handed in. `./day audit --help` tells all that is looked at."""
 import contextlib
 import datetime
 import itertools
+from collections import Counter
 from collections.abc import Iterator
 from dataclasses import dataclass
 from pathlib import Path
@@ -166,12 +167,15 @@ def strange_days(found: Found) -> Iterator[FileFault]:
 # What is no difference, and has to be known.
 
 
-def engines_told(there: Events) -> Iterator[str]:
+def engines_told(there: Events, named: str) -> Iterator[str]:
     """How many days no proved engine has settled."""
     days = [day for day in there.days if not settling.is_proved(day.engine)]
     if days:
         said = voice.either("settled by no proved engine, as far as the journal says", NO_ENGINE_NAMED)
         yield f"{said}: {len(days)}, last {days[-1].date}"
+    rows = Counter(day.engine for day in there.days)
+    doubts = {doubt: count for row, count in rows.items() if (doubt := settling.doubt_of_sum(row, named))}
+    yield from (f"settled by {doubt}: {count}" for doubt, count in doubts.items())
 
 
 def clock_told(there: Events) -> Iterator[str]:
