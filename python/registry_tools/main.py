@@ -12,7 +12,7 @@ from pathlib import Path
 from typing import Protocol, cast
 
 from registry_tools import outcomes, steps, streams, tables, voice
-from registry_tools.errors import FILE, NOT_WRITTEN, FileFault, WordsFault
+from registry_tools.errors import FILE, NOT_WRITTEN, Fault, FileFault
 from registry_tools.cli import named_day
 from registry_tools.options import Words, look_at_files
 from registry_tools.progress import progress
@@ -150,19 +150,13 @@ def run(name: str, arguments: list[str]) -> int:
     except SystemExit as end:
         # (the help was written, or the words are not taken)
         return int(end.code or 0)
-    except WordsFault as fault:
+    except Fault as fault:
         progress.clear()
         outcomes.keep(fault)
-        print(f"{voice.command(name)}: {fault}", file=sys.stderr)
-        return fault.status
-    except FileFault as fault:
-        progress.clear()
-        outcomes.keep(fault)
-        print(fault, file=sys.stderr)
+        print(fault if isinstance(fault, FileFault) else f"{voice.command(name)}: {fault}", file=sys.stderr)
         return fault.status
     finally:
         progress.clear()
-        steps.let_go()
 
 
 def begin(name: str, arguments: list[str]) -> int:
@@ -209,7 +203,8 @@ def main(arguments: list[str]) -> int:
         print(f"{perhaps_meant(name)}{tool}: there is no command {name}; {tool} --help tells all", file=sys.stderr)
         return 2
     try:
-        status = run(name, rest)
+        with steps.of_command(name):
+            status = run(name, rest)
         sys.stdout.flush()
         return status
     except sqlite3.Error as error:

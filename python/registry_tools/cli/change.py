@@ -165,7 +165,6 @@ def run(said: argparse.Namespace) -> int:
     if said.to is not None:
         raise WordsFault("--to is for --pairs: a folder keeps the change itself")
     why = words.one_line("why", said.why)
-    words.one_line("who", said.who)
     with folder.opened(said.office) as office:
         asked = Change(tuple(edits_of(said, office.names())), why, said.yes)
         came = change.change_by_hand(office, words.by(said, office), asked)

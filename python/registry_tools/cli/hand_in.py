@@ -43,7 +43,6 @@ def run(said: argparse.Namespace) -> int:
     are_accounts = said.accounts if said.accounts or said.instructions else None
     forms = Forms(importing.read_mapping(said.mapping), said.dates, are_accounts)
     asked = HandIn(words.given(said.files, said.called), tuple(said.again), forms)
-    words.one_line("who", said.who)
     with folder.opened(said.office) as office:
         added = hand_in.hand_in(office, words.by(said, office), asked)
     for part in added.parts:

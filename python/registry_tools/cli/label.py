@@ -55,7 +55,6 @@ def run(said: argparse.Namespace) -> int:
     if said.why is None:
         raise WordsFault("--why is needed: it is kept with the name")
     why, asked = words.one_line("why", said.why), [*asked_of(said)]
-    words.one_line("who", said.who)
     with folder.opened(said.office) as office:
         named = label.keep_names(office, words.by(said, office), asked, why)
     print("\n".join([*first_of([*lines_of(named)], MOST_TOLD), *named.doubts]))

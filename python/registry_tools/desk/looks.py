@@ -8,7 +8,7 @@ from typing import Any
 from registry_tools.cli import change as words_of_change, label as words_of_names
 from registry_tools.desk.reading import Reading
 from registry_tools.desk.words import label
-from registry_tools.errors import FileFault, WordsFault
+from registry_tools.errors import Fault
 from registry_tools.office import approvals, change, hand_in, handed, label as labelling, trial, undo
 from registry_tools.office.change import Change, Changed
 from registry_tools.office.hand_in import HandIn
@@ -59,7 +59,7 @@ def look_at_incoming(own: Reading, by: By, files: list[Given], again: list[tuple
         return Look([fault.without_way()], (files.index(fault.of), fault.at))
     except TableFault as fault:
         return Look(faults_of_table(fault, is_typed(files)))
-    except (FileFault, WordsFault) as fault:
+    except Fault as fault:
         return Look([str(fault)])
 
 

@@ -15,7 +15,7 @@ from typing import Any, TypeVar
 
 from registry_tools import voice
 from registry_tools.calendars.dates import date_of
-from registry_tools.errors import FileFault, WordsFault
+from registry_tools.errors import Fault, FileFault
 from registry_tools.layout import SETTINGS
 from registry_tools.office import approvals, close, composing, folder, handed, trial
 from registry_tools.office.composing import NextDay
@@ -114,7 +114,7 @@ class Reading:
 
     def state(self) -> str:
         """What a change builds on; nothing, if the folder cannot be read."""
-        with contextlib.suppress(FileFault, WordsFault, OSError):
+        with contextlib.suppress(Fault, OSError):
             return self.office().state()
         return ""
 
