@@ -15,7 +15,7 @@ from pathlib import Path
 import pytest
 
 import registry_office as office
-from harness import PYTHON, TOP, answer_of
+from harness import PYTHON, TOP, Word, answer_of
 from offices import FIRST, content_of
 
 DATE = datetime.date(2025, 3, 31)
@@ -45,7 +45,7 @@ def closed(folder: office.Office, **more: bool) -> office.Closed | office.Doubts
 
 def test_example_runs(tmp_path: Path) -> None:
     """As a program of somebody else: it finds the packages, and no cases."""
-    command = [sys.executable, "-B", TOP / "examples/python/office.py", tmp_path / "office"]
+    command: list[Word] = [sys.executable, "-B", TOP / "examples/python/office.py", tmp_path / "office"]
     assert answer_of(command, cwd=TOP, env={**os.environ, "PYTHONPATH": str(PYTHON)}) == (TOLD.encode(), b"", 0)
 
 
