@@ -54,7 +54,7 @@ def test_all_is_what_it_names() -> None:
     given = {alias.asname or alias.name for node in tree.body if isinstance(node, ast.ImportFrom)
              for alias in node.names if (node.module or "").startswith("registry_tools")}  # fmt: skip
     made = {node.name for node in tree.body if isinstance(node, ast.FunctionDef)}
-    inside = {"SETTINGS", "People", "at_one_moment", "by_of", "folder", "opening", "progress", "settings"}
+    inside = {"SETTINGS", "People", "at_one_moment", "by_of", "folder", "opening", "progress"}
     assert sorted((given | made) - inside) == sorted(office.__all__)
 
 

@@ -23,7 +23,7 @@ from pathlib import Path
 from registry_tools import opening
 from registry_tools.errors import Fault, FileFault, LateFault, RightsFault, RowFault, UnwrittenFault, WordsFault
 from registry_tools.layout import SETTINGS
-from registry_tools.office import folder, settings
+from registry_tools.office import folder
 from registry_tools.office.anchors import Anchor, anchor_of
 from registry_tools.office.approvals import AskedFor
 from registry_tools.office.approve import approve_command, approve_places

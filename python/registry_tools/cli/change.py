@@ -24,7 +24,7 @@ from registry_tools.pairs import edits
 from registry_tools.office.change import LAG, LAGS, Change
 from registry_tools.pairs.edits import ADD, DROP, OPEN, PUT, Edit
 from registry_tools.texts.labels import Labels
-from registry_tools.options import add_to
+from registry_tools.cli.options import add_to
 from registry_tools.output import write_answer
 from registry_tools.texts.follows import read_pair
 

@@ -13,7 +13,7 @@ from registry_tools.calendars.dates import DATE, date_of, is_date
 from registry_tools.errors import Fault, WordsFault
 from registry_tools.office import folder, handed
 from registry_tools.office.office import Office
-from registry_tools.options import A_DATE, Given, Words
+from registry_tools.cli.options import A_DATE, Given, Words
 from registry_tools.store.events import Event
 from registry_tools.store.past import kept, pair_of
 

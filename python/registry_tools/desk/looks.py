@@ -16,7 +16,7 @@ from registry_tools.office.handed import HandedIn, Part
 from registry_tools.office.incoming import Forms, Given, TableFault
 from registry_tools.office.office import By
 from registry_tools.office.waits import waits_of
-from registry_tools.options import TellingWords
+from registry_tools.cli.options import TellingWords
 from registry_tools.pages.beside import item_in_words, side_by_side
 from registry_tools.texts.in_words import instruction_in_words
 

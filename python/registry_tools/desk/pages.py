@@ -31,7 +31,7 @@ from registry_tools.pages.settled import (
 from registry_tools.pairs import settling
 from registry_tools.questions import due, taken
 from registry_tools.second import faults, rules
-from registry_tools.sheets import form
+from registry_tools.cli import form
 from registry_tools.texts.books import Sums, sums_of, sums_told
 from registry_tools.texts.in_words import grouped, instruction_in_words
 

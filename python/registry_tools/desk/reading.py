@@ -15,7 +15,7 @@ from typing import Any, TypeVar
 
 from registry_tools import voice
 from registry_tools.calendars.dates import date_of
-from registry_tools.errors import Fault, FileFault
+from registry_tools.errors import Fault
 from registry_tools.layout import SETTINGS
 from registry_tools.office import approvals, close, composing, folder, handed, trial
 from registry_tools.office.composing import NextDay
@@ -36,7 +36,6 @@ from registry_tools.store.events import LABELLED, Event
 from registry_tools.texts.checks import checks, form_words
 from registry_tools.texts.day_text import DayText
 from registry_tools.texts.labels import Labels
-from registry_tools.texts.report import LogRow
 
 T = TypeVar("T")
 # What takes longer than so many seconds is large.

@@ -6,7 +6,7 @@ from collections.abc import Iterable, Iterator
 from dataclasses import dataclass, replace
 
 from registry_tools import tables, voice
-from registry_tools.errors import Fault, FileFault, WordsFault
+from registry_tools.errors import Fault, WordsFault
 from registry_tools.notes import LOOK, Notes
 from registry_tools.office import approvals, composing, handed
 from registry_tools.pairs import edits, next as next_day

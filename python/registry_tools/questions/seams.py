@@ -16,7 +16,7 @@ from registry_tools.pairs import settling
 from registry_tools.office.office import Office
 from registry_tools.office.program import named_program
 from registry_tools.office.waits import waits_text
-from registry_tools.store import checks, events, file
+from registry_tools.store import checks, file
 from registry_tools.store.events import Event
 from registry_tools.store.past import PastDay
 from registry_tools.store.texts import put_back
