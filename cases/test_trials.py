@@ -101,8 +101,30 @@ def test_words_choose_trials(name: str) -> None:
     assert ran(name, made(), "-k", "not close and not one")[1] == ["two PASSED"]
 
 
+def test_words_choose_trials_of_a_module(name: str) -> None:
+    """A script may have its trials in modules beside it: their names are known before they are made, too."""
+    module = CASES / f"{name.replace('-', '_')}_parts.py"
+    module.write_text(HEAD.partition("def left")[0] + TWO.format(two="lambda: None"))
+    try:
+        script = HEAD + f"from {module.stem} import two_trials\n" + TAIL.replace("    trials.add_all(one_trials())\n", "")
+        assert ran(name, script, "-k", "close")[1] == ["three close PASSED"]
+    finally:
+        module.unlink()
+
+
 def test_first_failure_ends_the_run(name: str) -> None:
     assert ran(name, made(one="'wrong'"), "-x")[1] == ["one FAILED"]
+
+
+def test_what_is_started_can_be_interrupted() -> None:
+    """Also where the trials ignore it, as behind `nohup ./check &`."""
+    is_ignored = "import signal; print(signal.getsignal(signal.SIGINT) == signal.SIG_IGN)"
+    code = f"import harness, subprocess, sys; subprocess.run([sys.executable, '-c', {is_ignored!r}])\n{is_ignored}"
+    said = subprocess.run(
+        ["sh", "-c", f"trap '' INT; exec {sys.executable} -c \"$0\"", code], cwd=CASES, capture_output=True, text=True,
+        check=False,
+    )  # fmt: skip
+    assert (said.stdout, said.stderr) == ("False\nFalse\n", "")
 
 
 # Planted: each must fail.
