@@ -177,35 +177,56 @@ def answers(function: ast.FunctionDef) -> bool:
     return is_said or bool(adds) or asserts(function)
 
 
-@pytest.mark.parametrize("file", [name for name in TREES if name.startswith("test_")])
-def test_each_function_of_trials_asserts(file: str) -> None:
-    tests = [each for each in functions_of(TREES[file]) if each.name.startswith("test_")]
-    assert tests, f"{file} has no function that pytest collects"
-    assert [each.name for each in tests if not asserts(each)] == []
+def silent_tests(tree: ast.Module) -> list[str]:
+    """The functions that pytest collects, and that assert nothing."""
+    return [each.name for each in functions_of(tree) if each.name.startswith("test_") and not asserts(each)]
 
 
-@pytest.mark.parametrize("file", [*TREES])
-def test_each_trial_of_a_script_says_what_is_wrong(file: str) -> None:
-    """A trial that forgets its `return` would always pass."""
-    trials = [each for each in functions_of(TREES[file]) if each.name.endswith(("_fault", "_trial"))]
-    silent = [each.name for each in trials if not answers(each) and not is_generator(each)]
-    assert silent == []
+def silent_trials(tree: ast.Module) -> list[str]:
+    """The functions of a script that have a trial in their name, and say nothing: each would always pass."""
+    trials = [each for each in functions_of(tree) if each.name.endswith(("_fault", "_trial"))]
+    return [each.name for each in trials if not answers(each) and not is_generator(each)]
 
 
 def is_generator(function: ast.FunctionDef) -> bool:
     return any(isinstance(each, ast.Yield | ast.YieldFrom) for each in ast.walk(function))
 
 
-def test_no_function_of_trials_is_left_uncollected() -> None:
-    """A function `test_..` stands in a file `test_..py`; what gives trials is used by something."""
-    elsewhere = [
-        f"{file}: {each.name}" for file, tree in TREES.items() if not file.startswith("test_")
-        for each in functions_of(tree) if each.name.startswith("test_")
-    ]  # fmt: skip
-    used = {each.id for tree in TREES.values() for each in ast.walk(tree) if isinstance(each, ast.Name)}
-    used |= {each.attr for tree in TREES.values() for each in ast.walk(tree) if isinstance(each, ast.Attribute)}
-    unused = [
-        f"{file}: {each.name}" for file, tree in TREES.items() for each in functions_of(tree)
-        if re.search(r"^(?!test_).*(_trials?|_fault)$|^trials_", each.name) and each.name not in used
-    ]  # fmt: skip
-    assert elsewhere + unused == []
+def uncollected(trees: dict[str, ast.Module]) -> list[str]:
+    """Functions `test_..` outside of files `test_..py`, such files without one, and trials that nothing uses."""
+    own = [(file, each.name) for file, tree in trees.items() for each in functions_of(tree)]
+    found = [f"{file}: {name}" for file, name in own if name.startswith("test_") and not file.startswith("test_")]
+    found += [file for file in trees if file.startswith("test_") and file not in {
+        each for each, name in own if name.startswith("test_")}]  # fmt: skip
+    used = {each.id for tree in trees.values() for each in ast.walk(tree) if isinstance(each, ast.Name)}
+    used |= {each.attr for tree in trees.values() for each in ast.walk(tree) if isinstance(each, ast.Attribute)}
+    trial = re.compile(r"^(?!test_).*(_trials?|_fault)$|^trials_")
+    return found + [f"{file}: {name}" for file, name in own if trial.search(name) and name not in used]
+
+
+@pytest.mark.parametrize("file", [*TREES])
+def test_each_trial_says_what_is_wrong(file: str) -> None:
+    assert silent_trials(TREES[file]) + (silent_tests(TREES[file]) if file.startswith("test_") else []) == []
+
+
+def test_each_trial_is_collected() -> None:
+    assert uncollected(TREES) == []
+
+
+@pytest.mark.parametrize(
+    "file, text, told",
+    [
+        ("test_x.py", "def test_it(): made()", ["test_it"]),
+        ("test_x.py", "def test_it():\n    assert made()", []),
+        ("run-x", "def one_trial(): made()\nadd(one_trial)", ["one_trial"]),
+        ("run-x", "def one_trial(): return made()\nadd(one_trial)", []),
+        ("run-x", "def test_it():\n    assert made()", ["run-x: test_it"]),
+        ("test_x.py", "def it():\n    assert made()", ["test_x.py"]),
+        ("run-x", "def one_trials():\n    yield 'a', made()", ["run-x: one_trials"]),
+        ("run-x", "def one_trials():\n    yield 'a', made()\nadd(one_trials())", []),
+    ],
+)
+def test_planted_trial_that_shows_nothing_is_told(file: str, text: str, told: list[str]) -> None:
+    """One that asserts nothing, one that says nothing, and those that nobody collects."""
+    tree = ast.parse(text)
+    assert silent_tests(tree) + silent_trials(tree) + uncollected({file: tree}) == told
