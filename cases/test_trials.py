@@ -8,6 +8,8 @@ import ast
 import re
 import subprocess
 import sys
+from collections.abc import Sequence
+from importlib.util import find_spec
 from pathlib import Path
 
 import pytest
@@ -46,19 +48,21 @@ def two_trials() -> Iterator[tuple[str, Trial]]:
 """
 
 
-def ran(name: str, text: str, *words: str) -> tuple[str, list[str]]:
-    """The last line of pytest for a script of this text, and what it says of each trial."""
+def ran(name: str, text: str, *words: str, cache: Sequence[str] = ("-p", "no:cacheprovider")) -> tuple[str, list[str]]:
+    """What pytest says of a script of this text, and what it says of each trial."""
     script = CASES / name
     script.write_text(text)
     try:
         run = subprocess.run(
-            [sys.executable, "-m", "pytest", "-v", "-rs", "-p", "no:cacheprovider", *words, script],
+            [sys.executable, "-m", "pytest", "-v", "-rs", *cache, *words, script],
             capture_output=True, text=True, check=False, cwd=CASES.parent,
         )  # fmt: skip
     finally:
         script.unlink()
-    told = re.findall(rf"cases/{name}::(.*? (?:PASSED|FAILED|SKIPPED))", run.stdout)
-    return run.stdout, told
+    # (a process beside others tells the outcome first)
+    outcome = "(PASSED|FAILED|SKIPPED)"
+    told = re.findall(rf"(?:{outcome} )?cases/{name}::(.*?)(?: {outcome}|\s*$)", run.stdout, re.MULTILINE)
+    return run.stdout, [f"{own} {first or last}" for first, own, last in told if first or last]
 
 
 @pytest.fixture
@@ -106,7 +110,8 @@ def test_words_choose_trials_of_a_module(name: str) -> None:
     module = CASES / f"{name.replace('-', '_')}_parts.py"
     module.write_text(HEAD.partition("def left")[0] + TWO.format(two="lambda: None"))
     try:
-        script = HEAD + f"from {module.stem} import two_trials\n" + TAIL.replace("    trials.add_all(one_trials())\n", "")
+        tail = TAIL.replace("    trials.add_all(one_trials())\n", "")
+        script = f"{HEAD}from {module.stem} import two_trials\n{tail}"
         assert ran(name, script, "-k", "close")[1] == ["three close PASSED"]
     finally:
         module.unlink()
@@ -125,6 +130,18 @@ def test_what_is_started_can_be_interrupted() -> None:
         check=False,
     )  # fmt: skip
     assert (said.stdout, said.stderr) == ("False\nFalse\n", "")
+
+
+def test_what_failed_last_is_tried_alone(name: str, tmp_path: Path) -> None:
+    cache = ("-o", f"cache_dir={tmp_path}")
+    assert ran(name, made(two="lambda: 1 / 0"), cache=cache)[1] == ["one PASSED", "two FAILED", "three close PASSED"]
+    assert ran(name, made(), "--lf", cache=cache)[1] == ["two PASSED"]
+
+
+@pytest.mark.skipif(find_spec("xdist") is None, reason="pytest-xdist is not installed")
+def test_processors_share_the_trials(name: str) -> None:
+    said, told = ran(name, made(two="left"), "-n", "2")
+    assert sorted(told) == ["one PASSED", "three close PASSED", "two SKIPPED"] and "2 passed, 1 skipped" in said
 
 
 # Planted: each must fail.
