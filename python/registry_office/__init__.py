@@ -7,10 +7,11 @@
         office.hand_in(folder, me, office.HandIn((office.Given("tuesday-do.csv"),)))
         closed = office.close(folder, me, office.Close(datetime.date(2025, 9, 23)))
 
-They print nothing, and end nothing: whatever is wrong raises a `Fault`, and then nothing was changed. Its `code` says
-which kind of fault it is (docs/FORMATS.md lists them), `parts()` what more there is, and its text what is done about
-it, in the words of the commands. A function may also raise OSError and sqlite3.Error, if the disk or the file fails.
-A folder is used by the thread that opened it. A change is one step: an interrupt before it leaves all as it was.
+They print nothing (what a program that settles says beside its report goes to standard error), and end nothing:
+whatever is wrong raises a `Fault`, and then nothing was changed. Its `code` says which kind of fault it is
+(docs/OFFICE.md lists them), `parts()` what more there is, and its text what is done about it, in the words of the
+commands. A function may also raise OSError and sqlite3.Error, if the disk or the file fails. A folder is used by the
+thread that opened it. A change is one step: an interrupt before it leaves all as it was.
 
 What stands in `__all__` stays as it is until a version says otherwise; `registry_tools`, of which this is made, may
 change with each version.
