@@ -145,6 +145,14 @@ def test_fault_has_its_code_and_changes_nothing(
     assert content_of(folder.path) == before and not folder.store.db.in_transaction
 
 
+def test_fault_has_its_way_out_apart(folder: office.Office) -> None:
+    with pytest.raises(office.WordsFault) as raised:
+        office.close(folder, office.caller(folder, "ana"), office.Close(None))
+    way = "./day close --date 2025-03-31 closes the next one"
+    assert (raised.value.without_way(), raised.value.way) == ("name the day", way)
+    assert str(raised.value) == f"name the day: {way}"
+
+
 def test_folder_of_a_program_is_read_by_another_process(folder: office.Office) -> None:
     closed(folder)
     said = subprocess.run(

@@ -20,7 +20,7 @@ class Fault(Exception):
     # The exit status; the word by which programs know what kind of fault it is; and what is done about such a one.
     status = WORDS
     code = remedy = ""
-    # What is done about this one, if its sentence does not say it.
+    # What is done about this one, at the end of its sentence, if that is known.
     way = ""
     # The day behind a corrected one that can't be closed so, if it is a fault of that day.
     behind: datetime.date | None = None
@@ -29,11 +29,23 @@ class Fault(Exception):
         """The faults that it tells: itself, or several that were found together."""
         return (self,)
 
+    def without_way(self) -> str:
+        """What is wrong, without the way out: who shows it otherwise has another one."""
+        return str(self)
+
 
 class WordsFault(Fault):
-    """The words of the command do not fit together, or do not fit the files."""
+    """The words of the command do not fit together, or do not fit the files: `why`."""
 
     code, remedy = "words", "give the words that the sentence names"
+
+    def __init__(self, why: str, way: str = "") -> None:
+        super().__init__(f"{why}: {way}" if way else why)
+        self.why, self.way = why, way
+
+    def without_way(self) -> str:
+        """The same without the way out."""
+        return self.why
 
 
 class LateFault(WordsFault):
@@ -73,7 +85,7 @@ class FileFault(Fault):
         return (self,)
 
     def without_way(self) -> str:
-        """What is wrong, without the way out: who shows it otherwise has another one."""
+        """The same without the way out."""
         path = voice.path(self.path)
         place = f"{path}:{self.line}" if self.line else path
         if not self.expected:

@@ -81,7 +81,7 @@ def data_of(own: errors.Fault) -> Fault:
     """A fault as data."""
     if isinstance(own, FileFault):
         return Fault(own.code, str(own.path), own.line, own.field, str(own.found), str(own.expected), own.way)
-    return Fault(own.code, "", 0, "", str(own), "", own.way)
+    return Fault(own.code, "", 0, "", own.without_way(), "", own.way)
 
 
 def asked_for() -> None:

@@ -88,7 +88,7 @@ def close(office: Office, by: By, asked: Close) -> Closed | Doubts | AskedFor:
         handed_in = approvals.handed_in_of(office)
         if asked.date is None:
             comes = composing.settlement_date(office, handed_in)
-            raise WordsFault(f"name the day: {voice.command('close', '--date', comes)} closes the next one")
+            raise WordsFault("name the day", f"{voice.command('close', '--date', comes)} closes the next one")
         with composing.telling_the_way_out():
             left = left_for_later(handed_in, asked.date)
             composed = composing.compose(office, handed_in.until(asked.date), asked.date)

@@ -108,9 +108,8 @@ def last_day(office: Office) -> Event:
     """The last day of a folder. Ends the command if no day is settled yet."""
     last = office.last()
     if last is None:
-        raise WordsFault(
-            f"{voice.path(office.path)} has no settled day yet: {voice.command('init')} puts another first text there"
-        )
+        way = f"{voice.command('init')} puts another first text there"
+        raise WordsFault(f"{voice.path(office.path)} has no settled day yet", way)
     return last
 
 

@@ -54,9 +54,9 @@ def last_of(office: Office, named: datetime.date | None) -> Event:
         raise WordsFault(f"{voice.path(office.path)} has no settled day")
     if office.events.is_released():
         corrects = "enter an instruction that corrects what was done"
-        raise WordsFault(f"{last.date} was released, and is not undone: {corrects}")
+        raise WordsFault(f"{last.date} was released, and is not undone", corrects)
     if named is None:
-        raise WordsFault(f"name the day: {voice.command('undo', last.date)} takes back the last one")
+        raise WordsFault("name the day", f"{voice.command('undo', last.date)} takes back the last one")
     if named != last.date:
         raise WordsFault(f"{named} is not the last day, and only {last.date}, which is, can be undone")
     return last

@@ -66,7 +66,7 @@ def edit_of(row: str) -> Edit:
         return Edit(account_number(words[0]), words[1], tuple(words[2:]))
     if what == RULES and len(words) >= 2 and words[0] in (PUT, ADD, DROP):
         return Edit(0, words[0], tuple(words[1:]))
-    raise WordsFault(f"{row} is no change by hand: see {voice.command('change', '--help')}")
+    raise WordsFault(f"{row} is no change by hand", f"see {voice.command('change', '--help')}")
 
 
 def account_number(word: str) -> int:
