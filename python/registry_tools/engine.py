@@ -22,6 +22,8 @@ from registry_tools.texts.rows import text_of_rows
 TOP = Path(__file__).resolve().parents[2]
 LIBRARY = TOP / "out/library/lib/libregistry.so.1"
 CALLS = TOP / "examples/python/src/registry/native.py"
+# How memory is taken, as `./run` says it: a full day takes new memory all the time, and gets it sooner in large pages.
+TUNABLES = ("GLIBC_TUNABLES", "glibc.malloc.hugetlb=1:glibc.malloc.mmap_threshold=131072")
 NO_LIBRARY = "there is no library that is as new as its sources: name a program, or run tools/library out/library"
 
 
@@ -56,6 +58,16 @@ class Settler(Protocol):
         """The report of a day text. Raises NotSettled."""
 
 
+def run_settle(program: str, day: bytes) -> subprocess.CompletedProcess[bytes]:
+    """Runs `settle` of a program on a day text, which it has as a file in memory: a file is read in pieces by several
+    threads, and a pipe by one. Raises OSError if the program cannot be run."""
+    with os.fdopen(os.memfd_create("day"), "w+b") as text:
+        text.write(day)
+        text.seek(0)
+        tuned = {TUNABLES[0]: TUNABLES[1], **os.environ}
+        return subprocess.run([program, "settle"], stdin=text, capture_output=True, env=tuned, check=False)
+
+
 class Program:
     """A program that settles as `registry` does."""
 
@@ -68,7 +80,7 @@ class Program:
         try:
             # (a name without a slash is looked for on the PATH alone, as by a shell: whoever leaves a file where
             # somebody works has it run otherwise)
-            run = subprocess.run([self.name, "settle"], input=day, capture_output=True, check=False)
+            run = run_settle(self.name, day)
         except OSError as error:
             is_here = os.sep not in self.name and os.path.isfile(self.name)
             here = f"; ./{self.name} is the file of this folder" if is_here else ""

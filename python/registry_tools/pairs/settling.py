@@ -14,7 +14,7 @@ from pathlib import Path
 from typing import NamedTuple
 
 from registry_tools import installed, proof, voice
-from registry_tools.engine import NotSettled, find_library, tell_once
+from registry_tools.engine import NotSettled, find_library, run_settle, tell_once
 from registry_tools.errors import WordsFault, of_file
 from registry_tools.progress import progress
 from registry_tools.pairs.verify import expected_rows
@@ -141,16 +141,16 @@ def by_program(program: str, text: bytes, whose: str) -> bytes:
     if not program and not RUN.exists():
         second = voice.option("second")
         raise WordsFault(f"no program is named: put `program = PATH` into office.ini, or have {second} settle")
-    words = [program or str(RUN), "settle"]
-    progress.tell(f"settling by {words[0]}")
+    name = program or str(RUN)
+    progress.tell(f"settling by {name}")
     try:
-        run = subprocess.run(words, input=text, capture_output=True, check=False)
+        run = run_settle(name, text)
     except OSError as error:
-        raise of_file(words[0], f"it cannot be run: {error.strerror}") from None
+        raise of_file(name, f"it cannot be run: {error.strerror}") from None
     if run.returncode:
         said = run.stderr.decode("utf-8", "replace").strip()
         way = voice.either("--second has the second answer settle", "the second answer may settle")
         more = f"without the program, {way}"
-        raise of_file(words[0], f"settle{whose} ends with status {run.returncode}: {said}\n{more}")
+        raise of_file(name, f"settle{whose} ends with status {run.returncode}: {said}\n{more}")
     tell_once(run.stderr)
     return run.stdout
