@@ -11,7 +11,8 @@ import pytest
 from harness import TOP, Said
 from offices import must_do
 
-from registry_tools import completion, tables
+from registry_tools import tables
+from registry_tools.cli import completion
 
 MONDAY = TOP / "examples/week/monday.csv"
 ACTS = [act.word for act in tables.ACTS]

@@ -24,7 +24,7 @@ guarded: dict[str, None] = {}
 class LinkFault(FileFault):
     """Something in a folder of days is a link, or no plain file."""
 
-    code = "link"
+    code, remedy = "link", "take it away, once it is known who put it there"
 
     def __init__(self, path: str | Path, found: str = "a link") -> None:
         super().__init__(path, 0, "", found, "a file or folder of its own: look who put it there, and take it away")

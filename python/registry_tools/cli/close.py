@@ -44,7 +44,6 @@ def add_words(parser: argparse.ArgumentParser) -> None:
 
 def run(said: argparse.Namespace) -> int:
     """Runs the command, and answers the exit status."""
-    words.one_line("who", said.who)
     if said.day is not None and said.date is not None:
         raise WordsFault(f"the day stands twice, as {said.day} and as {voice.option('date', said.date)}: name it once")
     named = said.day if said.date is None else said.date

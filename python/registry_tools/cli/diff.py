@@ -13,7 +13,7 @@ from collections.abc import Iterator, Sequence
 
 from registry_tools import showing, tables, voice
 from registry_tools.calendars.dates import date_of
-from registry_tools.cli import asked
+from registry_tools.cli import answers, asked
 from registry_tools.errors import FOUND, WordsFault
 from registry_tools.office import folder
 from registry_tools.questions import days, diff
@@ -29,7 +29,7 @@ def add_words(parser: argparse.ArgumentParser) -> None:
     """Tells a parser the words of the command."""
     parser.add_argument("dates", metavar="DATE", nargs="*", help="two settled days")
     parser.add_argument("--with", dest="other", metavar="FOLDER", help="the second day is of this folder")
-    showing.add_words(parser)
+    answers.add_words(parser)
     asked.add_words(parser)
 
 
@@ -43,7 +43,7 @@ def run(said: argparse.Namespace) -> int:
         rows = [[own.what, own.account, own.field, own.first, own.second] for own in found]
     shown = asked.rows_shown(said, COLUMNS, rows, names)
     as_table = showing.as_table(COLUMNS.names, shown, COLUMNS.numbers)
-    showing.show_or_tell(said, COLUMNS, shown, lambda: as_table if rows else f"alike: {first.date} and {second.date}\n")
+    answers.show_or_tell(said, COLUMNS, shown, lambda: as_table if rows else f"alike: {first.date} and {second.date}\n")
     return FOUND if rows else 0
 
 

@@ -14,7 +14,8 @@ import sys
 
 from registry_tools import showing, tables
 from registry_tools.errors import FILE, FOUND
-from registry_tools.options import add_pair
+from registry_tools.cli import answers
+from registry_tools.cli.options import add_pair
 from registry_tools.showing import Cell
 from registry_tools.sheets import importing, reconciling, sheets
 from registry_tools.texts.follows import read_pair
@@ -32,7 +33,7 @@ def add_words(parser: argparse.ArgumentParser) -> None:
     add_pair(parser)
     parser.add_argument("--mapping", metavar="FILE", help="the columns and words of a table of others")
     parser.add_argument("--listed", action="store_true", help="pass over accounts that FILE does not have")
-    showing.add_words(parser)
+    answers.add_words(parser)
 
 
 def run(said: argparse.Namespace) -> int:
@@ -49,5 +50,5 @@ def run(said: argparse.Namespace) -> int:
     ]  # fmt: skip
     alike = f"alike after {day.head.date}: accounts {len(found.accounts)}, of each {', '.join(found.columns)}\n"
     as_table = showing.as_table(COLUMNS.names, rows, COLUMNS.numbers)
-    showing.show_or_tell(said, COLUMNS, rows, lambda: as_table if rows else alike)
+    answers.show_or_tell(said, COLUMNS, rows, lambda: as_table if rows else alike)
     return FOUND if rows else 0

@@ -8,7 +8,7 @@ from typing import Any
 from registry_tools.cli import change as words_of_change, label as words_of_names
 from registry_tools.desk.reading import Reading
 from registry_tools.desk.words import label
-from registry_tools.errors import FileFault, WordsFault
+from registry_tools.errors import Fault
 from registry_tools.office import approvals, change, hand_in, handed, label as labelling, trial, undo
 from registry_tools.office.change import Change, Changed
 from registry_tools.office.hand_in import HandIn
@@ -16,7 +16,7 @@ from registry_tools.office.handed import HandedIn, Part
 from registry_tools.office.incoming import Forms, Given, TableFault
 from registry_tools.office.office import By
 from registry_tools.office.waits import waits_of
-from registry_tools.options import TellingWords
+from registry_tools.cli.options import TellingWords
 from registry_tools.pages.beside import item_in_words, side_by_side
 from registry_tools.texts.in_words import instruction_in_words
 
@@ -59,7 +59,7 @@ def look_at_incoming(own: Reading, by: By, files: list[Given], again: list[tuple
         return Look([fault.without_way()], (files.index(fault.of), fault.at))
     except TableFault as fault:
         return Look(faults_of_table(fault, is_typed(files)))
-    except (FileFault, WordsFault) as fault:
+    except Fault as fault:
         return Look([str(fault)])
 
 

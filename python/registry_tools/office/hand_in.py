@@ -50,7 +50,7 @@ def hand_in(office: Office, by: By, asked: HandIn) -> Added:
 
 
 def look_at(office: Office, by: By, asked: HandIn) -> Added:
-    """What handing in would give. Nothing is handed in."""
+    """What handing in would give, and nothing is handed in. Raises what `hand_in` does."""
     with office.trying("hand-in", by):
         return added(office, asked)
 
@@ -106,10 +106,9 @@ class Here:
 
 
 class HadFault(FileFault):
-    """A row or a file that the folder has had before. By `of`, the file as it was given, and `at`, its line, it may
-    come once more."""
+    """The folder has had this row or file before: `of`, the file as it was given, and `at`, its line."""
 
-    code = "had"
+    code, remedy = "had", "leave it out, or name it as meant once more"
     of, at = Given(""), 0
 
 

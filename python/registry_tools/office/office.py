@@ -35,6 +35,12 @@ class By:
     seen: str | None = None
 
 
+def by_of(known: People, who: str, whom: str | None = None, seen: str | None = None) -> By:
+    """By whom something is done, of the people that a folder knows: by the login of the process, or the one for which
+    it may speak. Raises WordsFault."""
+    return By(people.login_for(known, whom), people.one_line("who", who), seen)
+
+
 @dataclass
 class Office:
     """An open folder."""

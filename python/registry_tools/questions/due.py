@@ -67,7 +67,8 @@ def folded(found: list[Due]) -> list[Due]:
 
 
 def due_until(office: Office, until: datetime.date) -> list[Due]:
-    """All that is due from the last settled day up to a date, by rising date."""
+    """All that is due from the last settled day up to a date, by rising date. Raises WordsFault if no day is settled,
+    and FileFault if a text of it can't be read."""
     day, report = composing.last_pair(office)
     names = office.names()
     known = deadlines(office.settings.due, day, report, names), of_rows(day, report, names), waiting(office, names)

@@ -11,12 +11,12 @@ import sys
 from collections.abc import Iterator, Sequence
 from pathlib import Path
 
-from registry_tools import installed, parsers, tables
-from registry_tools.cli import named_day
+from registry_tools import installed, tables
+from registry_tools.cli import named_day, parsers
+from registry_tools.cli.main import ASK
 from registry_tools.errors import FileFault, WordsFault
-from registry_tools.main import ASK
 
-TOP = Path(__file__).resolve().parents[2]
+TOP = Path(__file__).resolve().parents[3]
 EXAMPLE = "source <(./day completion bash)"
 SHELLS = ("bash", "zsh", "fish")
 # Of more accounts nobody reads a list.
@@ -46,7 +46,7 @@ def answer(words: Sequence[str]) -> int:
 
 def words_behind(words: Sequence[str]) -> list[str]:
     """The words that may stand in place of the last one of a line, whose program is left out."""
-    from registry_tools import main
+    from registry_tools.cli import main
 
     place = 0
     while len(words) > place + 2 and words[place] in (main.FOLDER, main.OFFICE):
