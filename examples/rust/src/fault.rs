@@ -79,8 +79,8 @@ pub enum Fault {
         /// The first cause that applies to it.
         cause: Cause,
     },
-    /// The day has no such account.
-    NoAccount,
+    /// The day has no account of this number.
+    NoAccount(u32),
     /// The date of a next day is not later than the day, or no date of a day text.
     NoNextDate,
     /// Memory ran out.
@@ -91,7 +91,7 @@ impl fmt::Display for Fault {
     fn fmt(&self, f: &mut fmt::Formatter<'_>) -> fmt::Result {
         match self {
             Fault::Row { row, cause } => write!(f, "row {row}: {cause}"),
-            Fault::NoAccount => f.write_str("no such account"),
+            Fault::NoAccount(account) => write!(f, "no such account: {account}"),
             Fault::NoNextDate => f.write_str("the next day is later than the day, and a date of a day text"),
             Fault::NoMemory => f.write_str("out of memory"),
         }

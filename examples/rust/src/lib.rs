@@ -99,7 +99,7 @@ pub fn plan(day: &[u8]) -> Result<Vec<u8>, Fault> {
 ///
 /// let day = std::fs::read("../first-transfer.csv")?;
 /// assert!(registry::statement(&day, 1)?.starts_with(b"opening,1,100,0\n"));
-/// assert_eq!(registry::statement(&day, 7), Err(Fault::NoAccount));
+/// assert_eq!(registry::statement(&day, 7), Err(Fault::NoAccount(7)));
 /// # Ok::<(), Box<dyn std::error::Error>>(())
 /// ```
 ///

@@ -68,7 +68,7 @@ fn ask(guess: usize, mut call: impl FnMut(&mut [u8]) -> Answer) -> Result<Vec<u8
                 return Ok(room);
             }
             DONE => length = answer.length,
-            NO_ACCOUNT => return Err(Fault::NoAccount),
+            NO_ACCOUNT => return Err(Fault::NoAccount(0)),
             FAULT => return Err(fault_of(&answer)),
             NO_DATE => return Err(Fault::NoNextDate),
             _ => return Err(Fault::NoMemory),
@@ -145,6 +145,11 @@ pub(crate) fn statement(day: &[u8], account: u32) -> Result<Vec<u8>, Fault> {
     ask(day.len() + 4096, |room| {
         // SAFETY: as in `command`.
         unsafe { registry_statement(day.as_ptr(), day.len(), account, room.as_mut_ptr(), room.len()) }
+    })
+    .map_err(|fault| match fault {
+        // (the library is told which, and tells it not again)
+        Fault::NoAccount(_) => Fault::NoAccount(account),
+        other => other,
     })
 }
 

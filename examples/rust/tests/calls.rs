@@ -85,7 +85,7 @@ fn faults_are_told() {
     assert_eq!(nothing, Fault::Row { row: 1, cause: Cause::End });
     let day = example("morning-batch.csv");
     for nobody in [0, 5, u32::MAX] {
-        assert_eq!(registry::statement(&day, nobody), Err(Fault::NoAccount));
+        assert_eq!(registry::statement(&day, nobody), Err(Fault::NoAccount(nobody)));
     }
 }
 
