@@ -18,7 +18,7 @@ ANCHOR, KEY = "anchor", "key"
 # The section that names programs which are run behind commands.
 HOOKS, AFTER_CLOSE = "hooks", "after_close"
 # What office.ini has: another section would be one that nobody reads.
-SECTIONS = (SECTION, deadlines.SECTION, ANCHOR, HOOKS, sender.SECTION, people.SECTION, people.FOUR_EYES)
+SECTIONS = (SECTION, deadlines.SECTION, ANCHOR, people.SECTION, people.FOUR_EYES, HOOKS, sender.SECTION)
 # What it names under [office].
 NAMES = ("layout", "program", "statements", "pages", "verify")
 
