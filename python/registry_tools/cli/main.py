@@ -192,8 +192,10 @@ def main(arguments: list[str]) -> int:
             outcomes.write(Path(arguments[2]), status)
         return status
     if arguments[:1] == [ASK] and arguments[1:]:
-        answered: int = importlib.import_module("registry_tools.cli.completion").answer(arguments[1:])
-        return answered
+        # (only a shell asks for them)
+        from registry_tools.cli import completion
+
+        return completion.answer(arguments[1:])
     tool = streams.names["./day"]
     if arguments[:1] == ["help"]:
         arguments = [*arguments[1:2], "--help"]
