@@ -32,20 +32,20 @@ def office(tmp_path_factory: pytest.TempPathFactory) -> Path:
     ("-C PARENT --office office undo ''", ["2025-09-22"]), ("compliance --office=OFFICE --day ''", ["2025-09-22"]),
     ("close --office OFFICE --date ''", ["2025-09-23", "2025-09-24", "2025-09-25", "2025-09-26"]),
     ("find --act ''", ACTS), ("find --name ''", [check.name for check in tables.CHECKS]),
-    ("completion ''", ["bash", "zsh", "fish"]), ("find --act --", ["--account", "--act", "--csv"]),
+    ("completion ''", ["bash", "zsh", "fish", "line"]), ("find --act --", ["--account", "--act", "--csv"]),
     ("balance --office /nowhere ''", []), ("balance --office ''", []), ("--office ''", []), ("nonsense ''", []),
     ("-C /nowhere balance ''", []),
 ])  # fmt: skip
 def test_words_of_a_line(office: Path, line: str, wanted: list[str]) -> None:
     words = ["" if word == "''" else word.replace("OFFICE", str(office)).replace("PARENT", str(office.parent))
              for word in line.split()]  # fmt: skip
-    said = Said("--complete", *words)
+    said = Said("completion", "line", "--", *words)
     found = said.output.split()
     assert (found[: len(wanted)] if line.endswith("--") else found, said.errors) == (wanted, ""), said
 
 
 def test_commands() -> None:
-    found = Said("--complete", "cl").output.split()
+    found = Said("completion", "line", "--", "cl").output.split()
     assert {"close", "diff", "reconcile", "-C", "--office", "--help"} <= {*found} and "" not in found
 
 
@@ -54,7 +54,7 @@ def test_a_folder_of_somebody_else(office: Path, tmp_path: Path) -> None:
     copy = tmp_path / "copy"
     shutil.copytree(office, copy)
     copy.chmod(0o777)
-    said = Said("--complete", "balance", "--office", copy, "")
+    said = Said("completion", "line", "--", "balance", "--office", copy, "")
     assert (said.output, said.errors, said.status) == ("", "", 0)
 
 
@@ -113,3 +113,8 @@ def test_no_bare_word(shell: str) -> None:
     """Neither `day` nor `run`, which others may have, too, is completed by these words."""
     lines = [line.split() for line in Said("completion", shell).output.splitlines() if line.startswith("complete ")]
     assert lines and not any({"day", "run"} & {*line} for line in lines)
+
+
+def test_words_behind_a_shell() -> None:
+    said = Said("completion", "bash", "x")
+    assert (said.status, said.output) == (2, "") and "bash takes no other word, and not x" in said.errors

@@ -13,12 +13,14 @@ from pathlib import Path
 
 from registry_tools import installed, tables
 from registry_tools.cli import named_day, parsers
-from registry_tools.cli.main import ASK
 from registry_tools.errors import FileFault, WordsFault
 
 TOP = Path(__file__).resolve().parents[3]
 EXAMPLE = "source <(./day completion bash)"
 SHELLS = ("bash", "zsh", "fish")
+# In place of a shell: what a shell asks, with the words of a line behind it up to the one that is completed.
+LINE = "line"
+ASK = f"completion {LINE} --"
 # Of more accounts nobody reads a list.
 MOST_SHOWN = 500
 # The values that all folders have, by the names that helps have for them.
@@ -30,7 +32,9 @@ ACCOUNTS = "SELECT DISTINCT account FROM accounts_by_day WHERE account LIKE ? ||
 
 def add_words(parser: argparse.ArgumentParser) -> None:
     """Tells a parser the words of the command."""
-    parser.add_argument("shell", choices=SHELLS, help="the shell")
+    which = f"the shell; or {LINE}, for the words that may stand last in a line, whose words stand behind --"
+    parser.add_argument("shell", choices=(*SHELLS, LINE), help=which)
+    parser.add_argument("words", metavar="WORD", nargs="*", help=argparse.SUPPRESS)
 
 
 # The words with which a line of ./day may go on.
@@ -206,5 +210,9 @@ def files() -> dict[str, str]:
 
 def run(said: argparse.Namespace) -> int:
     """Runs the command, and answers the exit status."""
+    if said.shell == LINE:
+        return answer(said.words or [""])
+    if said.words:
+        raise WordsFault(f"{said.shell} takes no other word, and not {' '.join(said.words)}")
     sys.stdout.write(text_of(said.shell))
     return 0

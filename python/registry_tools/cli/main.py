@@ -91,8 +91,6 @@ take all, or standard input is a folder. 130 somebody interrupted it.
 # Behind this word stands the folder of a desk, in whose words all is told, and a file into which the command writes
 # what came of it.
 FOR_DESK = "--for-desk"
-# Behind this word stands a line that a shell completes.
-ASK = "--complete"
 # Before the command: the folder in which it is run, and the folder of days, as if it stood behind it.
 FOLDER, OFFICE = "-C", "--office"
 
@@ -191,11 +189,6 @@ def main(arguments: list[str]) -> int:
         with contextlib.suppress(OSError):
             outcomes.write(Path(arguments[2]), status)
         return status
-    if arguments[:1] == [ASK] and arguments[1:]:
-        # (only a shell asks for them)
-        from registry_tools.cli import completion
-
-        return completion.answer(arguments[1:])
     tool = streams.names["./day"]
     if arguments[:1] == ["help"]:
         arguments = [*arguments[1:2], "--help"]
