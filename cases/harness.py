@@ -30,8 +30,8 @@ sys.path[:0] = [str(folder) for folder in (PYTHON, CASES, TOOLS) if str(folder) 
 os.environ.setdefault("REGISTRY_PROGRAMS", str(TOP))
 
 if signal.getsignal(signal.SIGINT) == signal.SIG_IGN:
-    # (behind `nohup` and `&` an interrupt is ignored, also by all that is started, and a desk that a trial ends so would
-    # never end: this process goes on ignoring it, and what it starts does not)
+    # (behind `nohup` and `&` an interrupt is ignored, also by all that is started, and a desk that a trial ends so
+    # would never end: this process goes on ignoring it, and what it starts does not)
     signal.signal(signal.SIGINT, lambda *_: None)
 
 from listening import empty_parts, keep_parts_apart, listener, place_of, raised  # noqa: E402

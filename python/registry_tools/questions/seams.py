@@ -160,7 +160,8 @@ def look_at_seam(found: Found, event: Event, day: DayText, report: Report, befor
     compare_texts(found, waiting, bytes_of(waiting), made.waiting_text(), "what was handed in", mend)
     if event.waits:
         behind = found.text_of(event, "waits")
-        compare_texts(found, behind, bytes_of(behind), waits_text(day, report, read_pending(waiting)), f"the day {event.date}", mend)
+        wanted = waits_text(day, report, read_pending(waiting))
+        compare_texts(found, behind, bytes_of(behind), wanted, f"the day {event.date}", mend)
 
 
 def later_again(found: Found, event: Event, given: Given, before: Filed | None) -> composing.NextDay:
