@@ -13,7 +13,6 @@ import stat
 import struct
 from collections.abc import Iterator
 from dataclasses import dataclass
-from importlib import resources
 from pathlib import Path
 
 from registry_tools import opening, steps, voice
@@ -265,17 +264,17 @@ def must_be_one(db: sqlite3.Connection, path: Path) -> None:
 
 def must_be_tables(db: sqlite3.Connection, path: Path) -> None:
     """Ends the command if a view has the name of a table: what it asks may have no end."""
-    for name in re.findall(r"CREATE TABLE (\w+)", schema()):
-        # (of a file that can't be read others tell more)
-        with contextlib.suppress(*UNREADABLE):
-            if db.execute("SELECT 1 FROM sqlite_master WHERE type = 'view' AND name = ?", (name,)).fetchone():
-                raise FileFault(path, 0, f"table {name}", "a view", "a table: somebody changed the file by other ways")
+    # (of a file that can't be read others tell more)
+    with contextlib.suppress(*UNREADABLE):
+        views = {name for (name,) in db.execute("SELECT name FROM sqlite_master WHERE type = 'view'")}
+        for name in views & {*re.findall(r"CREATE TABLE (\w+)", schema())}:
+            raise FileFault(path, 0, f"table {name}", "a view", "a table: somebody changed the file by other ways")
 
 
 def schema() -> str:
     """The statements that make all tables. A file has them without their comments: so each letter of it counts."""
-    own = resources.files(__package__)
-    text = "".join((own / name).read_text(encoding="utf-8") for name in ("schema.sql", "daybook.sql"))
+    own = Path(__file__)
+    text = "".join(own.with_name(name).read_text(encoding="utf-8") for name in ("schema.sql", "daybook.sql"))
     return re.sub(r"\n?[ \t]*--[^\n]*", "", text)
 
 
