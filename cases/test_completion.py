@@ -33,7 +33,8 @@ def office(tmp_path_factory: pytest.TempPathFactory) -> Path:
     ("close --office OFFICE --date ''", ["2025-09-23", "2025-09-24", "2025-09-25", "2025-09-26"]),
     ("find --act ''", ACTS), ("find --name ''", [check.name for check in tables.CHECKS]),
     ("completion ''", ["bash", "zsh", "fish", "line"]), ("find --act --", ["--account", "--act", "--csv"]),
-    ("balance --office /nowhere ''", []), ("balance --office ''", []), ("--office ''", []), ("nonsense ''", []),
+    ("form --", ["--help", "--to", "--xlsx"]), ("balance --office /nowhere ''", []),
+    ("balance --office ''", []), ("--office ''", []), ("nonsense ''", []),
     ("-C /nowhere balance ''", []),
 ])  # fmt: skip
 def test_words_of_a_line(office: Path, line: str, wanted: list[str]) -> None:

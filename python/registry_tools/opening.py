@@ -130,8 +130,8 @@ def listed(path: str | Path) -> list[str]:
 
 
 def must_have_locks(path: str | Path) -> None:
-    """Ends the command if the disk on which a file lies keeps no locks. (SQLite would take that for another command that
-    has the file locked, and wait.)"""
+    """Ends the command if the disk on which a file lies keeps no locks. (SQLite would take that for another command
+    that has the file locked, and wait.)"""
     file = open_file(path, os.O_RDONLY)
     try:
         with telling_of_locks(path), contextlib.suppress(BlockingIOError):

@@ -34,7 +34,7 @@ def add_words(parser: argparse.ArgumentParser) -> None:
     """Tells a parser the words of the command."""
     which = f"the shell; or {LINE}, for the words that may stand last in a line, whose words stand behind --"
     parser.add_argument("shell", choices=(*SHELLS, LINE), help=which)
-    parser.add_argument("words", metavar="WORD", nargs="*", help=argparse.SUPPRESS)
+    parser.add_argument("words", metavar="WORD", nargs=argparse.REMAINDER, help=argparse.SUPPRESS)
 
 
 # The words with which a line of ./day may go on.

@@ -38,8 +38,8 @@ RESERVED, FLOCK = 0x40000001, "hhqqi"
 CACHE = 64 * 1024
 # So ends a journal of SQLite that names another one. (No command changes two files in one step.)
 NAMES_ANOTHER = bytes.fromhex("d9d505f920a163d7")
-# How SQLite says that another process has a file locked, and that it can't read one. (Its sentences may have bytes of it
-# in them.)
+# How SQLite says that another process has a file locked, and that it can't read one. (Its sentences may have bytes of
+# it in them.)
 LOCKED = "database is locked"
 UNREADABLE = (sqlite3.DatabaseError, UnicodeError)
 BY_OTHERS = "the file of one login: who else works with the folder comes by its desk"
@@ -88,8 +88,8 @@ class Store:
 
     @contextlib.contextmanager
     def trying(self) -> Iterator[None]:
-        """What the block adds comes into memory alone, and is gone at its end: whoever only looks takes no lock of those
-        who write, so neither waits for the other. (Tables of questions are not read meanwhile.)"""
+        """What the block adds comes into memory alone, and is gone at its end: whoever only looks takes no lock of
+        those who write, so neither waits for the other. (Tables of questions are not read meanwhile.)"""
         before = self.db, self.texts, self.events
         with telling(self.path), contextlib.closing(sqlite3.connect(":memory:", isolation_level=None)) as memory:
             if not self.db.in_transaction:
