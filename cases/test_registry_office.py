@@ -16,7 +16,7 @@ import pytest
 
 import registry_office as office
 from harness import PYTHON, TOP, Word, answer_of
-from offices import FIRST, content_of
+from offices import FIRST, changed, content_of
 
 DATE = datetime.date(2025, 3, 31)
 FUNCTIONS = [name for name in office.__all__ if inspect.isfunction(getattr(office, name))]
@@ -54,7 +54,7 @@ def test_all_is_what_it_names() -> None:
     given = {alias.asname or alias.name for node in tree.body if isinstance(node, ast.ImportFrom)
              for alias in node.names if (node.module or "").startswith("registry_tools")}  # fmt: skip
     made = {node.name for node in tree.body if isinstance(node, ast.FunctionDef)}
-    inside = {"SETTINGS", "People", "at_one_moment", "by_of", "folder", "opening", "progress"}
+    inside = {"SETTINGS", "People", "at_one_moment", "by_of", "copies", "folder", "opening", "progress"}
     assert sorted((given | made) - inside) == sorted(office.__all__)
 
 
@@ -151,6 +151,30 @@ def test_fault_has_its_way_out_apart(folder: office.Office) -> None:
     way = "./day close --date 2025-03-31 closes the next one"
     assert (raised.value.without_way(), raised.value.way) == ("name the day", way)
     assert str(raised.value) == f"name the day: {way}"
+
+
+def test_copy_and_questions_have_what_was_done(folder: office.Office, tmp_path: Path) -> None:
+    closed(folder)
+    made = office.backup(folder, tmp_path / "copy.sqlite")
+    with office.days_of(folder) as days:
+        (row,) = office.find(days, office.Find(account=1))
+        held = office.balance(days, 2)
+    assert (made.days, made.head, row.is_done) == (1, folder.events.head, True)
+    assert held[0] == ["2025-03-31", 2, "general", 40, 0, 0]
+
+
+def test_other_login_is_refused(folder: office.Office) -> None:
+    """A folder that others may write is no folder of this login alone."""
+    folder.path.chmod(0o777)
+    with pytest.raises(office.FileFault, match="chmod"):
+        office.open_folder(folder.path)
+
+
+def test_forged_line_is_refused(folder: office.Office) -> None:
+    closed(folder)
+    changed(folder.path, "UPDATE events SET who = 'eve' WHERE id = 2")
+    with pytest.raises(office.FileFault, match="somebody changed"):
+        office.open_folder(folder.path)
 
 
 def test_folder_of_a_program_is_read_by_another_process(folder: office.Office) -> None:

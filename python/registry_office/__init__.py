@@ -53,7 +53,8 @@ from registry_tools.questions.find import Find, find
 from registry_tools.questions.history import history
 from registry_tools.questions.seams import Found
 from registry_tools.questions.status import Status, status
-from registry_tools.store.copies import Copy, backup
+from registry_tools.store import copies
+from registry_tools.store.copies import Copy
 from registry_tools.tables import VERSION as __version__
 
 __all__ = [
@@ -91,6 +92,12 @@ def caller(office: Office, who: str, seen: str | None = None) -> By:
     `seen`, a state that `Office.state()` has answered, the change is made only if the folder is still so. Raises
     WordsFault if the name is none."""
     return by_of(office.people, who, seen=seen)
+
+
+def backup(office: Office, path: str | os.PathLike[str]) -> Copy:
+    """Makes a copy of the file of a folder, whole or not at all, also while others work on it. Raises FileFault if
+    something else has that name than an earlier copy of it, or if the copy can't be made."""
+    return copies.backup(office.store, os.fspath(path))
 
 
 @contextlib.contextmanager

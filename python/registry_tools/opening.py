@@ -134,18 +134,3 @@ def listed(path: str | Path) -> list[str]:
         return sorted(os.listdir(folder))
     finally:
         os.close(folder)
-
-
-def rename(old: str | Path, new: str | Path) -> None:
-    """Gives a file or folder another name, in place of the file that has it. Raises OSError or LinkFault."""
-    with at(old) as (source, old_name), at(new) as (place, new_name):
-        os.replace(old_name, new_name, src_dir_fd=source, dst_dir_fd=place)
-
-
-def remove(path: str | Path) -> None:
-    """Takes a file away, if it is there. Raises OSError or LinkFault."""
-    with at(path) as (folder, name):
-        if folder is not None and is_link(folder, name):
-            raise LinkFault(path)
-        with contextlib.suppress(FileNotFoundError):
-            os.unlink(name, dir_fd=folder)
