@@ -252,3 +252,7 @@ def carry_out(own: socket.socket, stream: BinaryIO, asked: Asked, job: Job) -> i
     log.told(f"./day {name} of {job.login} ended with status {status}")
     there.end(status)
     return status
+
+
+if __name__ == "__main__":
+    sys.exit(begin(sys.argv[1:]))
