@@ -140,7 +140,7 @@ def mark_and_keep(office: Office, looked: list[Looked]) -> None:
     if bounds.is_look:
         return
     try:
-        with office.store.change():
+        with office.store.change(wait=0):
             forget(office)
             rows = [("",), *((tried.line(),) for tried in looked)]
             office.store.db.executemany("INSERT INTO looked VALUES (?)", rows)
