@@ -28,7 +28,7 @@ COLUMNS = tables.COLUMNS["diff"]
 def add_words(parser: argparse.ArgumentParser) -> None:
     """Tells a parser the words of the command."""
     parser.add_argument("dates", metavar="DATE", nargs="*", help="two settled days")
-    parser.add_argument("--with", dest="other", metavar="FOLDER", help="the second day is of this folder")
+    parser.add_argument("--with", dest="beside", metavar="FOLDER", help="the second day is of this folder")
     answers.add_words(parser)
     asked.add_words(parser)
 
@@ -55,7 +55,7 @@ def sides_of_pairs(said: argparse.Namespace, dates: Sequence[datetime.date]) -> 
     """The two days of two pairs of paths."""
     asked.must_be_one_place(said)
     pairs = days.pairs_named(said.pairs)
-    if len(pairs) != 2 or dates or said.other:
+    if len(pairs) != 2 or dates or said.beside:
         raise WordsFault("--pairs takes DAY REPORT DAY REPORT, which are the two days")
     with contextlib.closing(days.of_pairs(pairs[:1])) as one, contextlib.closing(days.of_pairs(pairs[1:])) as other:
         yield Side(one, one.dates[0]), Side(other, other.dates[0]), Labels()
@@ -64,15 +64,15 @@ def sides_of_pairs(said: argparse.Namespace, dates: Sequence[datetime.date]) -> 
 @contextlib.contextmanager
 def sides_of_folders(said: argparse.Namespace, dates: Sequence[datetime.date]) -> Sides:
     """The two days of a folder, or of two."""
-    if said.other is None and len(dates) != 2:
+    if said.beside is None and len(dates) != 2:
         raise WordsFault(f"found {len(dates)} dates; expected two, or {voice.option('with', 'FOLDER')}")
     with contextlib.ExitStack() as open_ones:
         office = open_ones.enter_context(folder.opened(said.office))
         own = other = open_ones.enter_context(days.at_one_moment(office.store))
-        if said.other is not None:
-            beside = open_ones.enter_context(folder.opened(said.other))
+        if said.beside is not None:
+            beside = open_ones.enter_context(folder.opened(said.beside))
             other = open_ones.enter_context(days.at_one_moment(beside.store))
-        first, second = side_of(own, dates[:1], office.path), side_of(other, dates[-1:], said.other or office.path)
+        first, second = side_of(own, dates[:1], office.path), side_of(other, dates[-1:], said.beside or office.path)
         yield first, second, office.names()
 
 

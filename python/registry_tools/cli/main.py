@@ -9,12 +9,13 @@ import re
 import signal
 import sqlite3
 import sys
+from collections.abc import Callable
 from pathlib import Path
 from typing import Protocol, cast
 
 from registry_tools import outcomes, steps, streams, tables, voice
 from registry_tools.errors import FILE, NOT_WRITTEN, Fault, FileFault
-from registry_tools.cli import named_day
+from registry_tools.cli import calling, named_day
 from registry_tools.cli.options import Words, look_at_files
 from registry_tools.progress import progress
 
@@ -79,6 +80,7 @@ The office round the program: the work of each day that needs no proof.
 TAIL = """
 There `--day DATE` stands in place of the paths of a day and its report: verify, statements, compliance, reconcile,
 page, log, explain, export.
+./day --desk PATH COMMAND .. gives it at the socket of a desk, with files of here (./day desk --help).
 ./day COMMAND --help explains a command, with an example. ./day --version tells the version. ./day -C FOLDER COMMAND
 runs the command in FOLDER; --office FOLDER may stand before it, too.
 
@@ -91,6 +93,8 @@ take all, or standard input is a folder. 130 somebody interrupted it.
 # Behind this word stands the folder of a desk, in whose words all is told, and a file into which the command writes
 # what came of it.
 FOR_DESK = "--for-desk"
+# Behind this word stands the socket of a desk, which carries the command out.
+BY_DESK = "--desk"
 # Before the command: the folder in which it is run, and the folder of days, as if it stood behind it.
 FOLDER, OFFICE = "-C", "--office"
 
@@ -141,16 +145,32 @@ def module_of(name: str) -> Command:
     return cast(Command, importlib.import_module(f"registry_tools.{path}"))
 
 
-def run(name: str, arguments: list[str]) -> int:
-    """Runs a command. What it finds wrong is told on standard error."""
-    # (a book is a million small objects, none of which refers to itself: looking for such takes a third of the time)
-    gc.disable()
+def run(name: str, arguments: list[str], desk: str | None = None) -> int:
+    """Runs a command, here or by a desk. What it finds wrong is told on standard error."""
     module = module_of(name)
-    try:
+
+    def given() -> int:
         words = parser_of(name, module, named_day.is_named(name, arguments)).parse_args(arguments)
+        there = calling.desk_for(name, words, desk)
+        if there is not None:
+            look_at_files(words)
+            return calling.ask(there, name, arguments, words)
         with named_day.looked_up(name, words):
             look_at_files(words)
             return module.run(words)
+
+    return carry_out(name, given)
+
+
+def carry_out(name: str, command: Callable[[], int]) -> int:
+    """Runs a command, and answers its status. What it finds wrong is told on standard error."""
+    # (a book is a million small objects, none of which refers to itself: looking for such takes a third of the time)
+    gc.disable()
+    try:
+        with steps.of_command(name):
+            status = command()
+        sys.stdout.flush()
+        return status
     except SystemExit as end:
         # (the help was written, or the words are not taken)
         return int(end.code or 0)
@@ -159,6 +179,14 @@ def run(name: str, arguments: list[str]) -> int:
         outcomes.keep(fault)
         print(fault if isinstance(fault, FileFault) else f"{voice.command(name)}: {fault}", file=sys.stderr)
         return fault.status
+    except sqlite3.Error as error:
+        why = "another command may write the file just now, or it was changed"
+        print(f"{voice.command(name)}: {error}: {why}", file=sys.stderr)
+        return FILE
+    except OSError as error:
+        return cannot_go_on(voice.command(name), error)
+    except KeyboardInterrupt:
+        return 130
     finally:
         progress.clear()
 
@@ -204,31 +232,15 @@ def main(arguments: list[str]) -> int:
     if not arguments:
         print(help_text(), end="", file=sys.stderr)
         return 2
-    return one_command(tool, arguments)
-
-
-def one_command(tool: str, arguments: list[str]) -> int:
-    """Runs the words of a command, and answers the exit status."""
-    name, *rest = behind_command(arguments) or [""]
+    desk = arguments[1] if arguments[0] == BY_DESK and arguments[2:] else None
+    name, *rest = behind_command(arguments if desk is None else arguments[2:]) or [""]
     if not name:
         print(f"{tool}: there is no command behind {' '.join(arguments)}", file=sys.stderr)
         return 2
     if name not in COMMANDS and name not in OFFICE_COMMANDS:
         print(f"{perhaps_meant(name)}{tool}: there is no command {name}; {tool} --help tells all", file=sys.stderr)
         return 2
-    try:
-        with steps.of_command(name):
-            status = run(name, rest)
-        sys.stdout.flush()
-        return status
-    except sqlite3.Error as error:
-        why = "another command may write the file just now, or it was changed"
-        print(f"{voice.command(name)}: {error}: {why}", file=sys.stderr)
-        return FILE
-    except OSError as error:
-        return cannot_go_on(voice.command(name), error)
-    except KeyboardInterrupt:
-        return 130
+    return run(name, rest, desk)
 
 
 def in_folder(tool: str, arguments: list[str]) -> int:

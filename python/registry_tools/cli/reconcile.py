@@ -13,6 +13,7 @@ import argparse
 import sys
 
 from registry_tools import showing, tables
+from registry_tools.elsewhere import Source
 from registry_tools.errors import FILE, FOUND
 from registry_tools.cli import answers
 from registry_tools.cli.options import add_pair
@@ -29,9 +30,9 @@ COLUMNS = tables.COLUMNS["reconcile"]
 
 def add_words(parser: argparse.ArgumentParser) -> None:
     """Tells a parser the words of the command."""
-    parser.add_argument("file", metavar="FILE", help="csv, .xlsx or .ods")
+    parser.add_argument("file", metavar="FILE", type=Source, help="csv, .xlsx or .ods")
     add_pair(parser)
-    parser.add_argument("--mapping", metavar="FILE", help="the columns and words of a table of others")
+    parser.add_argument("--mapping", metavar="FILE", type=Source, help="the columns and words of a table of others")
     parser.add_argument("--listed", action="store_true", help="pass over accounts that FILE does not have")
     answers.add_words(parser)
 

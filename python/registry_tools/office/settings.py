@@ -20,7 +20,7 @@ HOOKS, AFTER_CLOSE = "hooks", "after_close"
 # What office.ini has: another section would be one that nobody reads.
 SECTIONS = (SECTION, deadlines.SECTION, ANCHOR, people.SECTION, people.FOUR_EYES, HOOKS, sender.SECTION)
 # What it names under [office].
-NAMES = ("layout", "program", "statements", "pages", "verify")
+NAMES = ("layout", "program", "statements", "pages", "verify", "desk")
 
 
 @dataclass(frozen=True)
@@ -39,6 +39,8 @@ class Settings:
     key: Path | None = None
     # Who may do what, and what waits for a second one.
     people: People = People()
+    # The socket of its desk, for whoever may not write the folder.
+    desk: str = ""
     # The program that is run behind `close`; empty: none.
     after_close: str = ""
     # Whom letters come from.
@@ -83,9 +85,9 @@ def read(path: Path) -> Settings:
     key, named = key_of(path, parser), people.read(path, text)
     hooks = dict(parser[HOOKS]) if HOOKS in parser else {}
     must_be_known(path, f"[{HOOKS}]", hooks, (AFTER_CLOSE,))
-    behind = hooks.get(AFTER_CLOSE, "")
-    makes = makes_statements, makes_pages, verifies
-    return Settings(section.get("program", ""), *makes, due, key, named, behind, sender.read(path, parser))
+    makes, behind = (makes_statements, makes_pages, verifies), hooks.get(AFTER_CLOSE, "")
+    program, desk = (section.get(name, "") for name in ("program", "desk"))
+    return Settings(program, *makes, due, key, named, desk, behind, sender.read(path, parser))
 
 
 def key_of(path: Path, parser: configparser.ConfigParser) -> Path | None:

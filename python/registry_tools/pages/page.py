@@ -10,9 +10,10 @@ from collections.abc import Collection, Iterator, Sequence
 from dataclasses import dataclass, field
 from pathlib import Path
 
+from registry_tools.elsewhere import Elsewhere
 from registry_tools.errors import FileFault, WordsFault
 from registry_tools.texts.labels import Labels
-from registry_tools.output import NewFolder
+from registry_tools.output import NewFolder, new_folder
 from registry_tools.pages.account import account_page
 from registry_tools.pages.compliance import account_list_pages, compliance_pages
 from registry_tools.pages.html import Frame
@@ -157,8 +158,9 @@ def must_have_no_pages(path: str | Path) -> None:
 
 def make(path: str | Path, asked: Page) -> int:
     """Makes the pages in a folder that is not there yet, or empty, and answers how many there are."""
-    must_have_no_pages(path)
-    with NewFolder(path) as folder:
+    if not isinstance(path, Elsewhere):
+        must_have_no_pages(path)
+    with new_folder(path) as folder:
         day, report = read_pair(asked.day, asked.report)
         history = read_history(asked.history, day)
         days = [DayOfAccounts(*pair) for pair in [*history, (day, report)]]

@@ -8,7 +8,7 @@ from registry_tools import voice
 from registry_tools.calendars.deadlines import DueDates
 from registry_tools.errors import WordsFault
 from registry_tools.texts.labels import Labels
-from registry_tools.output import NewFolder
+from registry_tools.output import new_folder
 from registry_tools.pages.html import Frame
 from registry_tools.texts.sender import Sender
 from registry_tools.pages.letter import LetterWords, letter
@@ -119,7 +119,7 @@ def send(days: Days, names: Labels, asked: Send, folder: str, keep: Callable[[],
     mails = addresses_of(asked.mails) if asked.mails is not None else {}
     must_be_of(asked.mails or "", accounts_of(last.report, None), mails)
     span = " to ".join(dict.fromkeys((str(dates[0]), str(dates[-1]))))
-    with NewFolder(folder) as made:
+    with new_folder(folder) as made:
         for holder, numbers in progress.over(holders.items(), "writing the packages", len(holders), step=1):
             told = [*map(DayTold, excerpts(days, dates[:-1], numbers)), last]
             places = places_by_number(told, numbers)
@@ -133,6 +133,7 @@ def send(days: Days, names: Labels, asked: Send, folder: str, keep: Callable[[],
                 words = own.title, own.lead, own.tasks
                 to = mails.get(holder, [])
                 made.write_bytes(f"{holder}.eml", message(holder, span, asked.sender, to, words, files))
+        made.have_all_there()
         keep()
     return Sent(len(holders), sum(map(len, holders.values())))
 
