@@ -177,6 +177,18 @@ def test_forged_line_is_refused(folder: office.Office) -> None:
         office.open_folder(folder.path)
 
 
+def test_look_hands_nothing_in(folder: office.Office, tmp_path: Path) -> None:
+    closed(folder)
+    row, before = tmp_path / "row.csv", content_of(folder.path)
+    row.write_text("do,2025-04-01,101,102,transfer,1,2,general,7\n")
+    ben, asked = office.caller(folder, "ben"), office.HandIn((office.Given(str(row)),))
+    looked = office.look_at(folder, ben, asked)
+    assert [own.do_row for own in looked.looked] == [row.read_text().strip()]
+    assert content_of(folder.path) == before and office.status(folder).handed_in.parts == []
+    assert [part.count for part in office.hand_in(folder, ben, asked).parts] == [1]
+    assert [own.do_row for own in office.try_next(folder).looked] == [row.read_text().strip()]
+
+
 def test_folder_of_a_program_is_read_by_another_process(folder: office.Office) -> None:
     closed(folder)
     said = subprocess.run(
