@@ -189,6 +189,15 @@ def test_look_hands_nothing_in(folder: office.Office, tmp_path: Path) -> None:
     assert [own.do_row for own in office.try_next(folder).looked] == [row.read_text().strip()]
 
 
+def test_status_counts_the_rows_of_an_account(folder: office.Office, tmp_path: Path) -> None:
+    closed(folder)
+    account, rows = tmp_path / "new.csv", "account,4,trading,12,open,no,no,0,0,0\nuser,401,both\nuser,402,both\n"
+    account.write_text(rows)
+    office.hand_in(folder, office.caller(folder, "ben"), office.HandIn((office.Given(str(account)),)))
+    told = [what for _, what in office.status(folder).lines]
+    assert f"{rows.splitlines()[0]} and 2 rows (new.csv, ben)" in "\n".join(told)
+
+
 def test_folder_of_a_program_is_read_by_another_process(folder: office.Office) -> None:
     closed(folder)
     said = subprocess.run(
