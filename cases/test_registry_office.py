@@ -198,6 +198,14 @@ def test_status_counts_the_rows_of_an_account(folder: office.Office, tmp_path: P
     assert f"{rows.splitlines()[0]} and 2 rows (new.csv, ben)" in "\n".join(told)
 
 
+def test_status_tells_programs_when_what_waits_is_due(tmp_path: Path) -> None:
+    office.make_folder(office.Init(tmp_path / "week", str(TOP / "examples/week/monday.csv")), "ana")
+    with office.open_folder(tmp_path / "week") as week:
+        office.close(week, office.caller(week, "ana"), office.Close(datetime.date(2025, 9, 22), True, yes=True))
+        rows = [row[:3] for row in office.status(week).rows if row[0] == "waiting"]
+    assert rows == [["waiting", "2025-09-23", 61004], ["waiting", "2025-09-24", 61005]]
+
+
 def test_folder_of_a_program_is_read_by_another_process(folder: office.Office) -> None:
     closed(folder)
     said = subprocess.run(
