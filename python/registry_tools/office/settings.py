@@ -16,7 +16,7 @@ ANCHOR, KEY = "anchor", "key"
 # What office.ini has: another section would be one that nobody reads.
 SECTIONS = (SECTION, deadlines.SECTION, ANCHOR, people.SECTION, people.FOUR_EYES)
 # What it names under [office].
-NAMES = ("layout", "program", "statements", "pages", "verify")
+NAMES = ("layout", "program", "statements", "pages", "verify", "desk")
 
 
 @dataclass(frozen=True)
@@ -35,6 +35,8 @@ class Settings:
     key: Path | None = None
     # Who may do what, and what waits for a second one.
     people: People = People()
+    # The socket of its desk, for whoever may not write the folder.
+    desk: str = ""
 
     def text(self) -> str:
         """The text of office.ini."""
@@ -73,7 +75,8 @@ def read(path: Path) -> Settings:
     due = deadlines.read(path, parser)
     verifies = "verify" in section and is_yes(path, section, "verify")
     key, named = key_of(path, parser), people.read(path, text)
-    return Settings(section.get("program", ""), makes_statements, makes_pages, verifies, due, key, named)
+    program, desk = (section.get(name, "") for name in ("program", "desk"))
+    return Settings(program, makes_statements, makes_pages, verifies, due, key, named, desk)
 
 
 def key_of(path: Path, parser: configparser.ConfigParser) -> Path | None:
