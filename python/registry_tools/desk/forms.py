@@ -58,6 +58,13 @@ def accounts_offered(own: Reading) -> list[tuple[int, str]]:
     return [(int(row[1]), account_offered(row, names)) for row in rows]
 
 
+def cut_told(own: Reading) -> str:
+    """That not all accounts are offered, and how the others are found; nothing, if all are."""
+    settled = own.settled()
+    count = len(settled.report.book) if settled else 0
+    return f"The first {MOST_OFFERED:,} of {count:,} accounts are offered here." if count > MOST_OFFERED else ""
+
+
 def account_offered(row: Sequence[str], names: Labels) -> str:
     """What somebody knows an account by, and what it holds, by the fields of its row."""
     kinds = f"{row[2]} of {names.holder(row[3])}, {row[4]}: general {grouped(row[8])}, aviation {grouped(row[9])}"

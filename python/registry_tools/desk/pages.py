@@ -82,7 +82,7 @@ def hand_in(served: Served) -> Any:
     act, own = asked("act") if asked("act") in faults.ACT_WORDS else "", served.reading
     return show_page(
         "hand_in", "Hand in", act=act, fields=forms.instruction_fields(own, act) if act else [], empty=EMPTY,
-        known=forms.accounts_offered(own) if act else [], dates=DATES, later=forms.LATER,
+        known=forms.accounts_offered(own) if act else [], cut=forms.cut_told(own), dates=DATES, later=forms.LATER,
     )  # fmt: skip
 
 
@@ -141,7 +141,8 @@ def change(served: Served) -> Any:
     if number is not None:
         fields = [*forms.account_fields(day.book[number], len(day.head.periods))]
     known = forms.accounts_offered(own) if of == "account" and number is None else []
-    return show_page("change", "Change", account=number, of=of, date=day.head.date, fields=fields, known=known)
+    return show_page("change", "Change", account=number, of=of, date=day.head.date, fields=fields, known=known,
+                     cut=forms.cut_told(own))  # fmt: skip
 
 
 def close(served: Served) -> Any:

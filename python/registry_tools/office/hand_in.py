@@ -34,8 +34,9 @@ class Added:
     looked: list[trial.Looked]
     # What the folder has had before, and may come again.
     again: list[str]
-    # What of it waits for another login, in words.
+    # What of it waits for another login, and that a spreadsheet hides some of it, in words.
     waits: list[str]
+    hidden: list[str]
 
     def places(self) -> set[int]:
         """The places of all that was added."""
@@ -63,7 +64,7 @@ def added(office: Office, asked: HandIn) -> Added:
     date = composing.settlement_date(office, handed_in)
     next_day = composing.compose(office, handed_in.until(date), date)
     looked = trial.look(next_day, next_day.day(), office.names())
-    return Added(parts, next_day, looked, here.told, approvals.told_of_new(office, parts))
+    return Added(parts, next_day, looked, here.told, approvals.told_of_new(office, parts), here.hidden)
 
 
 def meant_again(paths: list[str], words: Sequence[str]) -> tuple[set[tuple[str, int]], set[int]]:
@@ -89,8 +90,9 @@ class Here:
     lines: set[tuple[str, int]] = field(default_factory=set)
     numbers: set[int] = field(default_factory=set)
     named: list[tuple[Part, str]] = field(default_factory=list)
-    # What is told of what comes again.
+    # What is told of what comes again, and of what a spreadsheet hides.
     told: list[str] = field(default_factory=list)
+    hidden: list[str] = field(default_factory=list)
 
     def named_as(self, part: Part) -> str:
         """The file of this command that a part is, in words; nothing, if it was handed in before."""
@@ -136,6 +138,7 @@ def add(office: Office, here: Here, own: Incoming) -> Part:
         refuse_blocks(office, here, own)
     part = handed.put(office, here.handed_in, own.kind, own.content, own.count, own.given.name, own.originals)
     here.named.append((part, own.path))
+    here.hidden += own.hidden
     return part
 
 

@@ -68,6 +68,8 @@ class Imported:
     are_accounts: bool
     made: list[Made]
     wrong: list[FileFault]
+    # That the spreadsheet hides some of them.
+    hidden: list[str]
 
     @property
     def rows(self) -> list[str]:
@@ -227,7 +229,7 @@ def imported(sheet: Sheet, are_accounts: bool | None, dates: str | None, mapping
     if are_accounts:
         # (as a day text has them)
         right.sort(key=lambda own: int(own.rows[0].split(",")[1]))
-    return Imported(are_accounts, right, wrong)
+    return Imported(are_accounts, right, wrong, sheet.hidden_told())
 
 
 def found_in(made: Iterator[Found | FileFault]) -> Iterator[Found | FileFault]:
@@ -256,6 +258,7 @@ def run(said: argparse.Namespace) -> int:
         print("\n".join(told(made.wrong, "nothing was written")), file=sys.stderr)
         return FILE
     preview(made.rows, made.are_accounts)
+    print("".join(f"{line}\n" for line in made.hidden), end="", file=sys.stderr)
     write_answer("".join(f"{row}\n" for row in made.rows), said.to)
     return 0
 
