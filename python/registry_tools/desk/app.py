@@ -13,7 +13,7 @@ from werkzeug.exceptions import HTTPException, NotFound, RequestEntityTooLarge
 from werkzeug.wrappers import Response
 
 from registry_tools import voice
-from registry_tools.desk import coming, gate, heads, pages, posts, questions, shown, words
+from registry_tools.desk import asks, coming, gate, heads, pages, posts, questions, shown, words
 from registry_tools.desk.gate import Served
 from registry_tools.errors import FileFault, WordsFault
 from registry_tools.pages import beside, html
@@ -32,7 +32,7 @@ SECTIONS = {
     "/find": "Find", "/names": "Names", "/journal": "Journal", "/audit": "Audit", "/send": "Send",
 }  # fmt: skip
 # What tries a change, and takes it back: it is of no moment before.
-OF_TRIALS = {"/undo"}
+OF_TRIALS, LOOK = {"/undo"}, "/look/"
 # What a desk that only looks has no use for.
 OF_CHANGES = {"/hand-in", "/change", "/close"}
 # As what a table is had, besides on its page.
@@ -48,14 +48,15 @@ GET: dict[str, Callable[..., Any]] = {
     f"/compliance.{FILES}": questions.compliance_file, f"/names.{FILES}": questions.names_file,
     "/table.<any(csv, xlsx):kind>": questions.table_file,
     "/journal": questions.journal, "/audit": questions.audit, "/send": questions.send,
+    "/hand-in/look/<key>": asks.look, "/change/look/<key>": asks.look, "/names/look/<key>": asks.look,
     "/jobs/<number>": questions.job, "/jobs/<number>/packages.zip": questions.packages,
 }  # fmt: skip
 POST: dict[str, Callable[..., Any]] = {
-    "/name": posts.name, "/hand-in/look": posts.look, "/hand-in/take": posts.take, "/next/take-back": posts.take_back,
+    "/name": posts.name, "/hand-in/look": asks.ask, "/hand-in/take": posts.take, "/next/take-back": posts.take_back,
     # (a look is kept, so that the next one tells what is new)
     "/next/seen": functools.partial(posts.begin, command="try"),
-    "/change/look": posts.look_at_change, "/change/make": posts.make_change, "/close/settle": posts.settle,
-    "/undo/yes": posts.undo, "/release/yes": posts.release, "/names/look": posts.look_at_names,
+    "/change/look": asks.ask, "/change/make": posts.make_change, "/close/settle": posts.settle,
+    "/undo/yes": posts.undo, "/release/yes": posts.release, "/names/look": asks.ask,
     "/names/give": posts.give_names, "/approve": posts.approve, "/audit/begin": posts.audit, "/send/begin": posts.send,
 }  # fmt: skip
 # What somebody may begin who changes nothing.
@@ -72,7 +73,7 @@ def make(served: Served) -> flask.Flask:
     setattr(formparser, "RequestEntityTooLarge", RequestEntityTooLarge)
     # (cookies know no ports: another desk has another one)
     app.config.update(
-        SECRET_KEY=secrets.token_bytes(32),
+        SECRET_KEY=served.secret,
         MAX_CONTENT_LENGTH=MOST_BYTES, SESSION_COOKIE_NAME=f"desk-{served.host.rpartition(':')[2]}",
         SESSION_COOKIE_HTTPONLY=True, SESSION_COOKIE_SAMESITE="Strict",
     )  # fmt: skip
@@ -100,7 +101,7 @@ def make(served: Served) -> flask.Flask:
 def shown_now(served: Served, view: Callable[..., Any], **more: Any) -> Any:
     """What a view shows of the folder as it is at one moment."""
     # (what a change of this page builds on is of the same moment)
-    if flask.request.path in OF_TRIALS:
+    if flask.request.path in OF_TRIALS or LOOK in flask.request.path:
         flask.g.state = served.reading.state()
         return view(served, **more)
     with served.reading.moment():
@@ -112,7 +113,7 @@ def changed(served: Served, view: Callable[..., Any]) -> Any:
     """What a form does that changes something: once, also if it is sent again. A desk that only looks refuses it."""
     if served.is_look and flask.request.path not in OF_LOOKING:
         return gate.said(403, "This desk shows all, and changes nothing.")
-    number = posts.form("once")
+    number = shown.form("once")
     if number in served.jobs.jobs:
         return flask.redirect(f"/jobs/{number}", 303)
     flask.g.state = served.reading.state()
@@ -129,7 +130,7 @@ def failed(served: Served, error: Exception) -> Any:
         return gate.said(500, f"{name}: it cannot be read or written: {error.strerror or 'for a reason not known'}")
     asked = flask.request
     is_typed = asked.path in SECTIONS and asked.args and shown.TYPED not in asked.args
-    back = posts.way_back() if asked.method == "POST" else shown.address(typed=1) if is_typed else ""
+    back = shown.back_of_form() if asked.method == "POST" else shown.address(typed=1) if is_typed else ""
     return gate.said(409 if isinstance(error, FileFault) else 400, str(error), back=back)
 
 

@@ -31,6 +31,8 @@ BEFORE, BEHIND = 15, 5
 OTHER, KEEP, DROP = "another day", "keep", "leave out"
 OTHER_ROWS = ("emissions", "figure")
 NUMERIC, NEEDED = 'inputmode="numeric"', 'inputmode="numeric" required'
+# How the last day of a year may be written in a spreadsheet.
+DATES = ["", "31.12.2026", "31/12/2026", "12/31/2026"]
 # So many working days are offered that are to be none any more, and so many accounts.
 MOST_WORKING, MOST_OFFERED = 30, 1_000
 Said = Mapping[str, str]

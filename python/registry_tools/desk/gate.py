@@ -16,8 +16,9 @@ from registry_tools.desk import heads, log
 from registry_tools.desk.door import NO_LINK, NOT_NAMED, Caller, Door, link_name, peer_of
 from registry_tools.desk.heads import LONGEST_NAME, MOST_FORM, Head, Proxy, Refusal
 from registry_tools.desk.jobs import Jobs
+from registry_tools.desk.kept import BYTES, signed_by
 from registry_tools.desk.reading import Reading
-from registry_tools.desk.shown import show_page
+from registry_tools.desk.shown import back_of_form, show_page
 from registry_tools.cli.words import one_line
 from registry_tools.errors import FileFault, RightsFault, WordsFault
 from registry_tools.layout import SETTINGS
@@ -59,6 +60,9 @@ class Served:
         # What the link has: 128 bits.
         self.key = secrets.token_urlsafe(16)
         self.reading, self.jobs = Reading(path, private), Jobs(path, private)
+        # By what cookies are signed: after a restart by the same, where somebody else than the link says who it is.
+        links = door.links.kept if door is not None else None
+        self.secret = links.key if links else signed_by(proxy.secret, path) if proxy else secrets.token_bytes(BYTES)
 
 
 def head() -> Head:

@@ -14,11 +14,12 @@ from registry_tools.office.change import Change, Changed
 from registry_tools.office.hand_in import HandIn
 from registry_tools.office.handed import HandedIn, Part
 from registry_tools.office.incoming import Forms, Given, TableFault
-from registry_tools.office.office import By
+from registry_tools.office.office import By, sum_of_outcome
 from registry_tools.office.waits import waits_of
 from registry_tools.options import TellingWords
 from registry_tools.pages.beside import item_in_words, side_by_side
 from registry_tools.texts.in_words import instruction_in_words
+from registry_tools.texts.labels import Label, Labels
 
 # What an instruction that was typed is called.
 TYPED = "typed at the desk.csv"
@@ -93,24 +94,24 @@ def look_at_waiting(own: Reading, handed_in: HandedIn, part: Part | None) -> Row
     return [*side_by_side(own.of_next(f"place {part.start}", own.dates()[0], look))]
 
 
-def look_at_undo(own: Reading, by: By, last: datetime.date, date: datetime.date) -> tuple[Rows, Rows]:
-    """What would be handed in again, and what would wait again, if the last day was taken back for this day."""
+def look_at_undo(own: Reading, by: By, last: datetime.date, date: datetime.date) -> tuple[Rows, Rows, str]:
+    """What would be handed in again, and what would wait again, if the last day was taken back for this day; and the
+    sum of that."""
     with own.anew() as office, office.trying("undo", by):
         filed = undo.last_of(office, last)
         undo.taken_back(office, filed, date, NO_REASON, "")
         there = approvals.handed_in_of(office)
         rows: Rows = [(i.place, item_in_words(i), i.part.name, i.part.who) for i in there.items(*handed.KINDS)]
         waits = [(str(w.due or ""), w.record, instruction_in_words(w.instruction)) for w in waits_of(office)]
-        return rows, [*waits]
+        return rows, [*waits], sum_of_outcome(undo.comes_again(office))
 
 
-def look_at_names(own: Reading, asked: list[str]) -> tuple[Rows, list[str]]:
-    """What names would be new, with what they were, and what may be a slip, by the words of the command. Raises what
+def look_at_names(own: Reading, asked: list[str]) -> tuple[list[Label], Labels, list[str]]:
+    """What names would be new, which there are before, and what may be a slip, by the words of the command. Raises what
     the command does."""
     parser = TellingWords()
     words_of_names.add_words(parser)
     said, before = parser.parse_args(asked), own.names()
     words_of_names.must_fit(said)
     new = labelling.new_of([*words_of_names.asked_of(said)], before)
-    rows: Rows = [(f"{name.kind} {name.number}", before.name_of(*name[:2]), name.name) for name in new]
-    return rows, [*labelling.doubts_of(own.office(), new, before)]
+    return new, before, [*labelling.doubts_of(own.office(), new, before)]

@@ -12,7 +12,7 @@ from werkzeug.exceptions import NotFound
 from registry_tools import voice
 from registry_tools.calendars.dates import date_of
 from registry_tools.cli.close import compliant_told
-from registry_tools.desk import forms, gate, looks, shown
+from registry_tools.desk import asks, forms, gate, looks, shown
 from registry_tools.desk.gate import Served
 from registry_tools.desk.reading import Reading
 from registry_tools.desk.shown import asked, number_asked, row_of_taken, show_page, sorted_table
@@ -39,9 +39,8 @@ DAYS = ["Day", "Who", "At", "Records", "Settled by", "Released"]
 TAKEN = ["Place", "What", "Who took it back", "At", "Why"]
 HANDED_IN, FILES = ["Place", "What", "File or reason", "Who"], ["File or reason", "What", "Who", "At"]
 WAITING = ["Due", "Record", "Instruction"]
-# What there are empty tables of; and how the last day of a year may be written in a spreadsheet.
+# What there are empty tables of.
 EMPTY = [own for own in form.WHAT if own != form.LABELS]
-DATES = ["", "31.12.2026", "31/12/2026", "12/31/2026"]
 SECOND = "by the second answer alone: then nothing is proved"
 # So many dates are told that come next.
 MOST_COMING = 5
@@ -82,7 +81,8 @@ def hand_in(served: Served) -> Any:
     act, own = asked("act") if asked("act") in faults.ACT_WORDS else "", served.reading
     return show_page(
         "hand_in", "Hand in", act=act, fields=forms.instruction_fields(own, act) if act else [], empty=EMPTY,
-        known=forms.accounts_offered(own) if act else [], cut=forms.cut_told(own), dates=DATES, later=forms.LATER,
+        known=forms.accounts_offered(own) if act else [], cut=forms.cut_told(own), dates=forms.DATES, later=forms.LATER,
+        look=asked("look"), chosen=asks.chosen(served, asked("look")),
     )  # fmt: skip
 
 
@@ -147,7 +147,7 @@ def change(served: Served) -> Any:
 
 def close(served: Served) -> Any:
     """The page that asks whether the next day is settled."""
-    own, why, outcome_of = served.reading, "", None
+    own, why, outcome_of, comes = served.reading, "", None, ""
     dates, program = own.dates(), own.office().settings.program
     # (by its name alone: where a program lies on the disk is nothing for a page)
     settler = settling.settler_in_words(os.path.basename(program))
@@ -156,7 +156,7 @@ def close(served: Served) -> Any:
     engines = [("", f"by {named}, and compared with the second answer")] if settler else []
     date = asked("other") or asked("date") or str(dates[0])
     try:
-        outcome_of, left = own.closing(date)
+        (outcome_of, comes), left = own.closing(date)
         notes = [*outcome_of.notes, *left, *compliant_told(outcome_of)]
     except (WordsFault, FileFault) as fault:
         why, notes = str(fault), []
@@ -166,6 +166,7 @@ def close(served: Served) -> Any:
         alerts=[note.removeprefix(f"{LOOK}: ") for note in notes if note.startswith(LOOK)],
         totals=totals_of(outcome_of.before, outcome_of.after) if outcome_of else "",
         engines=[*engines, ("1", SECOND)], engine="" if settler and not is_built else "1",
+        shown=comes,
     )  # fmt: skip
 
 
@@ -202,7 +203,7 @@ def undo(served: Served) -> Any:
         date = undoing.date_again(office, last, date_of("the day", asked("date")) if asked("date") else None)
         settled, before = own.settled(last.date), [event.date for event in office.events.days[:-1]][-1:]
         assert settled is not None  # (it is the last day)
-    again, waits = own.of_next("undo", date, lambda: looks.look_at_undo(own, by, last.date, date))
+    again, waits, comes = own.of_next("undo", date, lambda: looks.look_at_undo(own, by, last.date, date))
     earlier = [own for own in settled.head.working_days if before and before[0] < own < last.date]
     count, said = Counter(map(kind_of, settled.log)), long_date(last.date)
     told = ", ".join(f"{count[kind]} {kind}" for kind in OUTCOMES)
@@ -213,7 +214,8 @@ def undo(served: Served) -> Any:
         told=[sorted_table("Handed in then", HANDED_IN, again, ["Place"], empty="Nothing is handed in then."),
               sorted_table("Waiting then", WAITING, waits, ["Record"], name="waits-", empty="Nothing waits then."),
               totals_of(sums_told(settled.report), sums_of(settled.day.book_rows))],
-        action="/undo/yes", button=f"Yes, undo {said}", no="/days", choices=[last.date, *reversed(earlier)],
+        action="/undo/yes", button=f"Yes, undo {said}", no="/days", shown=comes,
+        choices=[last.date, *reversed(earlier)],
         fields=[("day", last.date), *([("date", date)] if date != last.date else [])], chosen=("date", date),
         words="For which day it is handed in again: an earlier one, if it was closed for a date that is too late",
     )  # fmt: skip

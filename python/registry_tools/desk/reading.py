@@ -20,7 +20,7 @@ from registry_tools.layout import SETTINGS
 from registry_tools.office import approvals, close, composing, folder, handed, trial
 from registry_tools.office.composing import NextDay
 from registry_tools.office.handed import HandedIn
-from registry_tools.office.office import Office
+from registry_tools.office.office import Office, sum_of_outcome
 from registry_tools.office.waits import waiting_behind
 from registry_tools.pages import indexed, month, send
 from registry_tools.pages.account import own_parts
@@ -275,13 +275,16 @@ class Reading:
         trial.mark_new(self.office(), looked)
         return next_day, looked, otherwise
 
-    def closing(self, word: str | None) -> tuple[close.Outcome, list[str]]:
-        """What would come of it if the next day was closed now, by the second answer, and what is left for later."""
+    def closing(self, word: str | None) -> tuple[tuple[close.Outcome, str], list[str]]:
+        """What would come of it if the next day was closed now, by the second answer, with the sum of that, and what is
+        left for later."""
         office, next_day = self.office(), self.next_day(word)
-        outcome = self.of_next(
-            "closing", next_day.date, lambda: close.outcome_of_day(close.settle(office, next_day, by_second=True))
-        )
-        return outcome, close.left_for_later(self.handed_in(), next_day.date)
+
+        def work() -> tuple[close.Outcome, str]:
+            settled = close.settle(office, next_day, by_second=True)
+            return close.outcome_of_day(settled), sum_of_outcome([next_day.sum()])
+
+        return self.of_next("closing", next_day.date, work), close.left_for_later(self.handed_in(), next_day.date)
 
 
 def read_settled(office: Office, event: Event, names: Labels) -> DeskSettled:

@@ -17,6 +17,7 @@ from registry_tools.office.office import Office
 from registry_tools.second import faults, rules
 from registry_tools.store import past
 from registry_tools.store.events import Event
+from registry_tools.store.texts import sum_of
 from registry_tools.texts import pending
 from registry_tools.texts.accounts import Accounts, Reader
 from registry_tools.texts.day_text import DayText, day_of
@@ -50,6 +51,10 @@ class NextDay:
     def waiting_text(self) -> bytes:
         """The pending file of the day."""
         return pending.text_of(self.waiting, pending.Made(self.date, self.first)).encode("utf-8", "surrogateescape")
+
+    def sum(self) -> str:
+        """The sum of all that it is made of: what comes of it is the same as long as this is."""
+        return sum_of(self.text + self.waiting_text())
 
     def day(self, path: str = NEXT_DAY) -> DayText:
         """The text, read again with all checks. A fault names the path."""

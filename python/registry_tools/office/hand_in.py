@@ -42,12 +42,19 @@ class Added:
         """The places of all that was added."""
         return {place for part in self.parts for place in range(part.start, part.end)}
 
+    def outcome(self) -> list[str]:
+        """What would come of it, in lines, whatever else is handed in."""
+        there = self.places()
+        return [*self.again, *(f"{own.said()} {own.do_row}" for own in self.looked if own.place in there)]
+
 
 def hand_in(office: Office, by: By, asked: HandIn) -> Added:
     """Hands files in, and tries the next day with them. Raises FileFault at a fault of a file, or of the next day as a
     whole, and WordsFault or RightsFault if it may not be so: then nothing is handed in."""
     with office.changing("hand-in", by):
-        return added(office, asked)
+        own = added(office, asked)
+        office.must_be_as_shown(by, own.outcome())
+        return own
 
 
 def look_at(office: Office, by: By, asked: HandIn) -> Added:

@@ -35,6 +35,7 @@ def keep_names(office: Office, by: By, asked: list[Label], why: str) -> Named:
     with office.changing("label", by):
         before, at = office.names(), now()
         new = [own._replace(at=at, who=office.who, why=why) for own in new_of(asked, before)]
+        office.must_be_as_shown(by, named_so(new, before))
         rows = "".join(f"{own.row()}\n" for own in new).encode("utf-8", "surrogateescape")
         # (ends the command if the names could not be read again)
         list(labels.rows_in(rows_of_text(office.store.path, rows.decode("utf-8", "surrogateescape"))))
@@ -44,6 +45,11 @@ def keep_names(office: Office, by: By, asked: list[Label], why: str) -> Named:
         assert date is not None  # (a folder without a settled day has a first text)
         office.add(LABELLED, date=date, why=why, text=office.store.texts.put(rows))
         return Named(new, before, [*doubts_of(office, new, before)])
+
+
+def named_so(new: list[Label], before: Labels) -> list[str]:
+    """What would be named how, and was before, in lines."""
+    return [f"{own} {before.name_of(own.kind, own.number)}" for own in new]
 
 
 # What is asked for.

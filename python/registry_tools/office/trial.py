@@ -16,7 +16,6 @@ from registry_tools.second import rules
 from registry_tools.texts import checks, in_words
 from registry_tools.texts.day_text import DayText
 
-COLUMNS = ("", "place", "instruction", "outcome")
 WAITED = "waited"
 # How many rows are shown that the library answers otherwise.
 MOST_SHOWN = 3
@@ -94,15 +93,6 @@ def outcome_by_rules(logged: rules.Logged, i: rules.Instruction) -> str:
     """`done`, or the name of the check."""
     behind = logged.line.split(",")[3 + len(i.fields) :]
     return "done" if behind[0] == "done" else behind[2]
-
-
-def table_of(looked: list[Looked]) -> list[str]:
-    """The lines of a table of instructions."""
-    rows = [
-        ["*" if tried.is_new else "", WAITED if tried.place is None else str(tried.place), tried.words, tried.said()]
-        for tried in looked
-    ]
-    return in_words.table_lines([*COLUMNS], rows, {"place"})
 
 
 def counts_of(looked: list[Looked]) -> str:
