@@ -35,6 +35,8 @@ SECTIONS = {
 OF_TRIALS, LOOK = {"/undo"}, "/look/"
 # What a desk that only looks has no use for.
 OF_CHANGES = {"/hand-in", "/change", "/close"}
+# What is said of an address that is none.
+OTHER = {404: "No page of this desk has this address."}
 # As what a table is had, besides on its page.
 FILES = "<any(csv, xlsx, json):kind>"
 GET: dict[str, Callable[..., Any]] = {
@@ -112,7 +114,7 @@ def shown_now(served: Served, view: Callable[..., Any], **more: Any) -> Any:
 def changed(served: Served, view: Callable[..., Any]) -> Any:
     """What a form does that changes something: once, also if it is sent again. A desk that only looks refuses it."""
     if served.is_look and flask.request.path not in OF_LOOKING:
-        return gate.said(403, "This desk shows all, and changes nothing.")
+        return gate.said(403, "This desk shows all, and changes nothing.", title="Nothing was done")
     number = shown.form("once")
     if number in served.jobs.jobs:
         return flask.redirect(f"/jobs/{number}", 303)
@@ -124,7 +126,7 @@ def failed(served: Served, error: Exception) -> Any:
     """What went wrong, on a page."""
     if isinstance(error, HTTPException):
         own = error.description if isinstance(error, NotFound) and error.description != NotFound.description else None
-        return gate.said(error.code or 500, own or f"{error.name}.")
+        return gate.said(error.code or 500, own or OTHER.get(error.code, f"{error.name}."))
     if isinstance(error, OSError):
         name = Path(str(error.filename or "the folder")).name
         return gate.said(500, f"{name}: it cannot be read or written: {error.strerror or 'for a reason not known'}")
@@ -142,7 +144,7 @@ def dress(app: flask.Flask, served: Served) -> None:
         token=lambda: flask.session["token"], once=lambda: secrets.token_hex(8), state=lambda: flask.g.state,
         who=lambda: gate.known_name(served), says_name=not (served.who or served.proxy or served.door),
         may_not=lambda: gate.may_not(served), apart=beside.apart, time=voice.time,
-        table=shown.sorted_table, acts=faults.ACT_WORDS, meaning=lambda name: form_checks()[name].meaning,
+        zone=words.zone, table=shown.sorted_table, acts=faults.ACT_WORDS, meaning=lambda name: form_checks()[name].meaning,
     )  # fmt: skip
     app.jinja_env.filters.update(
         grouped=grouped, label=words.label, date=long_date,

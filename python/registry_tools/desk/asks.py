@@ -13,6 +13,7 @@ from registry_tools.desk.jobs import FORGOTTEN, Asked
 from registry_tools.desk.shown import (
     LONGEST_FIELD, OF_PAGE, ROWS, address_of, form, outcome, show_page, sorted_table,
 )  # fmt: skip
+from registry_tools.desk.words import LAGS
 from registry_tools.errors import FileFault, WordsFault
 from registry_tools.office import handed, label, trial
 from registry_tools.office.incoming import Given
@@ -108,7 +109,14 @@ def look(served: Served, key: str) -> Any:
     try:
         return done_by(served, asked) or pages[asked.page](served, key, asked)
     except (WordsFault, FileFault) as fault:
-        return gate.said(409 if isinstance(fault, FileFault) else 400, str(fault), back=back_to(asked))
+        code, told = 409 if isinstance(fault, FileFault) else 400, with_label(str(fault))
+        return gate.said(code, told, back=back_to(asked), title="It cannot be done so")
+
+
+def with_label(told: str) -> str:
+    """What is wrong, with the label of the field of a lag, of which all make one row of the rules."""
+    name, _, more = told.partition(": ")
+    return f"{LAGS[name.lower()]}: {more}" if name.lower() in LAGS and name.isupper() else told
 
 
 # Files, and instructions that were typed.
@@ -180,8 +188,8 @@ def names_told(files: list[Given]) -> list[str]:
 
 def page_of_change(served: Served, key: str, asked: Asked) -> Any:
     """What a change by hand would change."""
-    words = [*forms.words_of_change(asked.first(), served.reading)]
-    own = looks.look_at_change(served.reading, gate.by(served), words)
+    edits = looks.edits_asked([*forms.words_of_change(asked.first(), served.reading)])
+    own = looks.look_at_change(served.reading, gate.by(served), edits)
     return show_page(
         "yes", "A look before it is changed", fields=[("look", key)], notes=own.notes, shown=sum_of_outcome(own.rows),
         lead=f"Nothing is changed yet. For {own.date} this would be:", action="/change/make", typed_why=asked.why,

@@ -73,6 +73,7 @@ def account_offered(row: Sequence[str], names: Labels) -> str:
     return ", ".join(filter(None, [names.name_of(ACCOUNT, row[1]), kinds]))
 
 
+NEW_USER = "One more user"
 RIGHT_OF_NEW = Field("new_right", "who may", "both", RIGHTS)
 # What is asked for of a new account.
 OF_NEW = [
@@ -131,7 +132,7 @@ def account_fields(block: Block, periods: int) -> Iterator[Field]:
         options = [KEEP, *(other for other in RIGHTS if other != right), DROP]
         words = f"--user=+{user}:{{}}", f"--user=-{user}"
         yield Field(f"user-{user}", f"User {user} may {called(right)}", KEEP, options, *words)
-    yield Field("new_user", "One more user")
+    yield Field("new_user", NEW_USER)
     yield RIGHT_OF_NEW
     corrections = {"1": row[7], **{own[1]: own[2] for own in lists if own[0] == "correction"}}
     for period in map(str, range(1, periods + 1)):
@@ -161,14 +162,15 @@ def rule_fields(day: DayText) -> Iterator[Field]:
     yield Field("not_working", "A day that is no working day any more", "", ["", *later], "--not-working={}")
 
 
-def words_of_change(said: Said, own: Reading) -> Iterator[str]:
-    """The words of ./day change for what a form says otherwise than it is. WordsFault if there is no such account."""
+def words_of_change(said: Said, own: Reading) -> Iterator[tuple[str, str]]:
+    """The words of ./day change for what a form says otherwise than it is, each with the label of its field. WordsFault
+    if there is no such account."""
     day, of, number = own.text_of_next(), said.get("of", ""), said.get("account", "")
     fields: Iterable[Field] = rule_fields(day) if of == "rules" else ()
     if of == "account":
         if not number.isascii() or not number.isdigit() or int(number[:10]) not in day.book:
             raise WordsFault("there is no such account in the next day's text")
-        yield number
+        yield "", number
         fields = account_fields(day.book[int(number)], len(day.head.periods))
     for field in fields:
         asked = said.get(field.name, str(field.now))
@@ -177,10 +179,13 @@ def words_of_change(said: Said, own: Reading) -> Iterator[str]:
             raise WordsFault(f"{field.label}: found {shown(asked)}; expected {expected}")
         word = field.drop if asked == DROP else field.word.format(asked)
         if word and asked != str(field.now):
-            yield word
+            yield field.label, word
     if of == "rules" and (said.get("first") or said.get("last")):
-        yield f"--period={said.get('first', '')}-{said.get('last', '')}"
+        yield "The years of one more period", f"--period={said.get('first', '')}-{said.get('last', '')}"
     if of == "new":
-        yield f"--open-account={','.join(said.get(name, '') for name in ('number_of_account', 'kind', 'holder'))}"
+        made = [said.get(own.name, "") for own in OF_NEW[:3]]
+        # (the first that is no number is told)
+        label = next((own.label for own, word in zip(OF_NEW, made) if not own.options and not word.isdigit()), "")
+        yield label, f"--open-account={','.join(made)}"
     if of != "rules" and said.get("new_user"):
-        yield f"--user=+{said['new_user']}:{said.get('new_right', '')}"
+        yield OF_NEW[3].label if of == "new" else NEW_USER, f"--user=+{said['new_user']}:{said.get('new_right', '')}"

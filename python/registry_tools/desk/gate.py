@@ -193,11 +193,31 @@ def with_headers(response: Response) -> Response:
     return response
 
 
-def said(code: int, text: str, is_again: bool = False, back: str = "") -> Response:
+# What happened, by the status of the page that tells more.
+HAPPENED = {
+    403: "You are not let in", 404: "There is no such page", 405: "There is no such page", 413: "The form is too long",
+    409: "What was read has a fault", 500: "The folder cannot be read or written",
+}  # fmt: skip
+# Of a text that says by itself what happened, in front of a colon, so much is a title.
+LONGEST_TITLE = 80
+
+
+def title_of(code: int, text: str) -> str:
+    """What happened, as the title of a page that tells more."""
+    if code != 400 and not (code == 404 and ":" in text):
+        return HAPPENED.get(code, "Nothing was done")
+    first = text.partition(":")[0]
+    if code == 404 or text.startswith(NO_DAY):
+        return first[:1].upper() + first[1:LONGEST_TITLE]
+    return "Nothing was done" if flask.request.method == "POST" else "It cannot be shown as it was asked for"
+
+
+def said(code: int, text: str, is_again: bool = False, back: str = "", title: str = "") -> Response:
     """A page that says one thing. `is_again`: it leads to the page that was asked for; `back` is a form."""
     path = flask.request.full_path.rstrip("?") if is_again and flask.request.method == "GET" else ""
     # (two slashes would lead to another host)
-    return show_page("said", "No", code, text=text, path="/" + path.lstrip("/\\") if path else "", back=back)
+    own = title or title_of(code, text)
+    return show_page("said", own, code, text=text, path="/" + path.lstrip("/\\") if path else "", back=back)
 
 
 class Sessions(SecureCookieSessionInterface):

@@ -18,6 +18,7 @@ from registry_tools.office.office import By, sum_of_outcome
 from registry_tools.office.waits import waits_of
 from registry_tools.options import TellingWords
 from registry_tools.pages.beside import item_in_words, side_by_side
+from registry_tools.pairs.edits import Edit
 from registry_tools.texts.in_words import instruction_in_words
 from registry_tools.texts.labels import Label, Labels
 
@@ -77,11 +78,21 @@ def faults_of_table(fault: TableFault, is_of_form: bool) -> list[str]:
     return [f"{label(own.field)}: found {own.found}; expected {own.expected}" for own in fault.wrong[:MOST_TOLD]]
 
 
-def look_at_change(own: Reading, by: By, asked: list[str]) -> Changed:
-    """What a change by hand would make of the next day, by the words of the command."""
-    parser = TellingWords()
+def edits_asked(asked: list[tuple[str, str]]) -> list[Edit]:
+    """The differences that words of the command ask for. A fault of one is told by the label of its field."""
+    parser, made = TellingWords(), list[Edit]()
     words_of_change.add_words(parser)
-    edits = words_of_change.edits_of(parser.parse_args(asked))
+    for count, (label_of, _) in enumerate(asked, 1):
+        try:
+            # (an account alone asks for nothing)
+            made = words_of_change.edits_of(parser.parse_args([word for _, word in asked[:count]])) if label_of else made
+        except WordsFault as fault:
+            raise WordsFault(f"{label_of}: {str(fault).partition(': ')[2] or fault}") from None
+    return made or words_of_change.edits_of(parser.parse_args([word for _, word in asked]))
+
+
+def look_at_change(own: Reading, by: By, edits: list[Edit]) -> Changed:
+    """What a change by hand would make of the next day."""
     with own.anew() as office:
         return change.change_by_hand(office, by, Change(tuple(edits), NO_REASON))
 

@@ -89,7 +89,8 @@ def take_back(served: Served) -> Any:
 def make_change(served: Served) -> Any:
     """Has a change by hand made."""
     said = looked_at(served, "/change").first()
-    return do_with_why(served, "change", "--yes", *forms.words_of_change(said, served.reading))
+    words = (word for _, word in forms.words_of_change(said, served.reading))
+    return do_with_why(served, "change", "--yes", *words)
 
 
 def give_names(served: Served) -> Any:
@@ -134,7 +135,7 @@ def send(served: Served) -> Any:
     holders = BETWEEN.split(form("holders")) if form("holders") else []
     for holder in holders:
         if not PLACE.fullmatch(holder):
-            raise WordsFault(f"holders: found {holder!r}; expected numbers with blanks between them")
+            raise WordsFault(f"Only these holders: found {holder!r}; expected numbers with blanks between them")
     own = [*(f"--{name}={form(name)}" for name in ("from", "day") if form(name))]
     own += ["--holder", *holders] if holders else []
     if not form("release"):

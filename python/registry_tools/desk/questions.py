@@ -49,7 +49,7 @@ WORKBOOK = "application/vnd.openxmlformats-officedocument.spreadsheetml.sheet"
 BEHIND = dict.fromkeys(("hand-in", "change", "take-back"), ("/next", "To the next day"))
 BEHIND["label"] = ("/names", "To the names")
 # What the dates of an address are called.
-NAMES_OF_DATES = {"from": "the first day", "to": "the last day", "deadline": "the deadline"}
+NAMES_OF_DATES = {"from": "From the day", "to": "Up to the day", "deadline": "Deadline"}
 # What files tell of an account.
 OF_ACCOUNTS = tables.columns("#account kind #holder status #general #aviation")
 # What is told of an operator.
@@ -141,7 +141,7 @@ def compliance(served: Served) -> Any:
         return gate.said(400, gate.NO_DAY)
     year, word = number_asked("year") or answers.last_year_over(settled.head), asked("deadline")
     office, standings = own.office(), answers.standings(settled.day, settled.report, year)
-    deadline = date_of("the deadline", word) if word else office.settings.due.surrender_of(year)
+    deadline = date_of(NAMES_OF_DATES["deadline"], word) if word else office.settings.due.surrender_of(year)
     rows = own.once(("standings", year), own.state_of_days(), lambda: sorted(standings, key=standing.order))
     return show_page(
         "compliance", f"Compliance for {year}", year=year, rows=[*map(row_of_standing, rows)], columns=COLUMNS,
@@ -211,7 +211,7 @@ def wanted(names: Labels) -> Find:
 
 def number_or_name(word: str, names: Labels, kind: str = ACCOUNT) -> int | None:
     """The number that a word of the address says, or that of what it names; None, if it is not there."""
-    return number_said(word, asked(word), names, kind) if asked(word) else None
+    return number_said(word.capitalize(), asked(word), names, kind) if asked(word) else None
 
 
 def find(served: Served) -> Any:
@@ -319,8 +319,9 @@ def job(served: Served, number: str) -> Any:
         leads = (f"/days/{date}", "To the day")
     if there.status == 0 and there.made():
         leads = (f"/jobs/{number}/packages.zip", "Download the packages")
+    ended = {None: "at work"}.get(there.status, "nothing was done" if there.is_fault() else "done")
     return show_page(
-        "job", voice.page_of(there.command), job=there, status=there.status, leads=leads,
+        "job", f"{voice.page_of(there.command)}: {ended}", job=there, status=there.status, leads=leads,
         has_changed=bool(there.seen) and there.seen != flask.g.state, refresh=2 if there.status is None else None,
     )  # fmt: skip
 

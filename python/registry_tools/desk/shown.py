@@ -48,7 +48,7 @@ def number_asked(name: str) -> int | None:
     """The number that a word of the address says, if it is there. Raises WordsFault if it is none."""
     word = asked(name)
     if word and not NUMBER.fullmatch(word):
-        raise WordsFault(f"{name}: found {word!r}; expected {EXPECTED[name]}")
+        raise WordsFault(f"{name.capitalize()}: found {word!r}; expected {EXPECTED[name]}")
     return int(word) if word else None
 
 

@@ -2,6 +2,7 @@
 from collections.abc import Iterator
 from dataclasses import dataclass
 
+from registry_tools import voice
 from registry_tools.errors import FileFault, WordsFault, shown
 from registry_tools.notes import LOOK
 from registry_tools.office import approvals, composing
@@ -60,7 +61,8 @@ def one_name(kind: str, number: str, name: str, is_gone: bool = False) -> Label:
     own = Label(kind, number, labels.tidy(name))
     found, expected = wrong_part(own, is_gone)
     if expected:
-        raise WordsFault(f"found {shown(found)}; expected {expected}")
+        where = voice.either("", "Its number: " if found == own.number else "Its name: ")
+        raise WordsFault(f"{where}found {shown(found)}; expected {expected}")
     return own
 
 
