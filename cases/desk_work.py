@@ -2,19 +2,24 @@
 behind a restart. For cases/run-desk."""
 from __future__ import annotations
 
+import csv
+import io
 import os
+import re
 import time
+import urllib.parse
 from collections.abc import Iterator
 from pathlib import Path
 from typing import Any
 from unittest import mock
 
 import desks
-from desk_looks import WEEK, Told, desk_of, has
-from harness import differs
+from desk_looks import MONDAY, TUESDAY, WEEK, WHY, Told, close, desk_of, has
+from harness import Said, differs
+from offices import must_do, must_do_either
 from spreadsheets import SHEET_PART, replace_in, write_kept
 
-from registry_tools.desk import forms
+from registry_tools.desk import forms, pictures
 from registry_tools.desk.door import Links
 from registry_tools.desk.heads import SECRET_HEADER
 from registry_tools.desk.kept import KEPT, Kept
@@ -25,7 +30,7 @@ WORKBOOK = "instructions.xlsx"
 def work_trials(work: Path) -> Iterator[Told]:
     """All trials of this file."""
     work.mkdir()
-    for trials in (list_trials, hidden_trials, restart_trials, kept_trials):
+    for trials in (list_trials, hidden_trials, restart_trials, kept_trials, today_trials, tick_trials, search_trials):
         yield from trials(work / trials.__name__)
 
 
@@ -126,3 +131,82 @@ def kept_trials(work: Path) -> Iterator[Told]:
             os.mkfifo(own, 0o600)
         yield f"{what} is not believed", Kept(socket).key == signed and "it is"
         yield f"{what}: what is kept now counts", differs(Kept(socket).key, Kept(socket).key)
+
+
+# Today, and what one field finds.
+
+
+def today_trials(work: Path) -> Iterator[Told]:
+    """Today has the figures of the next day, what all accounts hold as a picture and in words, and who lacks what."""
+    desk, own = desk_of(work)
+    ana = desk.person()
+    rows = work / "rows.csv"
+    row = f"do,{TUESDAY},5101,5102,surrender,100210,general,"
+    rows.write_text(f"{row}7\n{row}999999999\ndo,{TUESDAY},5101,5102,transfer,100210,300118,general,5\n")
+    must_do_either(["hand-in", str(rows), *own])
+    page = ana.get("/")
+    figures = dict(re.findall('<dt><a href="[^"]*">([^<]*)</a></dt><dd>([^<]*)</dd>', page.text))
+    tried = Said("try", *own).output.splitlines()[-1]
+    wanted = {f"would {name}": count for name, count in zip(
+        ("be done", "wait", "be refused"), re.findall("[a-z]+ ([0-9]+)", tried.partition(": ")[2]))}  # fmt: skip
+    yield "figures", differs({name: figures[name] for name in wanted}, wanted)
+    totals = sum_held(own)
+    yield "what is held, in a sentence", has(page, f"all accounts hold {totals['general']} general")
+    (picture,) = re.findall('<svg [^>]*viewBox="0 0 640 220".*?</svg>', page.text, re.DOTALL)
+    yield "the picture says the sentence", None if "all accounts hold" in picture.partition(">")[0] else picture[:300]
+    yield "its axes have labels", None if ">0</text>" in picture and ">22 Sep</text>" in picture else picture
+    standings = csv.DictReader(io.StringIO(Said("compliance", "--day", MONDAY, "--csv", *own).output))
+    lacking = sorted((f"{int(own['missing']):,}" for own in standings if own["missing"] not in ("", "0")), reverse=True)
+    found = [cells[1] for cells in page.page.table("Missing for 2024").rows]
+    yield "who is missing how much", differs(sorted(found, reverse=True), lacking) if lacking else "nobody"
+    with (work / "office" / "office.ini").open("a") as settings:
+        settings.write("[due]\nsurrender = 09-30\n")
+    yield "by when", has(ana.get("/"), "Missing for 2024, by Tuesday 30 September 2025")
+    text = (work / "office" / "office.ini").read_text()
+    (work / "office" / "office.ini").write_text(text.replace("[office]\n", "[office]\nname = Registry of <b>\n", 1))
+    yield "the name of the office", has(ana.get("/"), "<h1>Registry of &lt;b&gt;, today</h1>")
+    yield "four groups of pages", differs(len(re.findall("<span id=.group-", page.text)), 4)
+    must_do_either(["take-back", "1", "2", "3", *WHY, *own], close(TUESDAY, own))
+    again = ana.get("/accounts/100210")
+    yield "days that changed nothing are no rows", has(again, "On 1 other day it stayed as it was.")
+
+
+def sum_held(own: list[str]) -> dict[str, str]:
+    """What all accounts hold by kind, as the statements of accounts say it."""
+    found = {"general": 0, "aviation": 0}
+    for number in re.findall("^account,([0-9]+)", (WEEK / "monday.csv").read_text(), re.MULTILINE):
+        for row in csv.DictReader(io.StringIO(Said("balance", number, "--csv", *own).output)):
+            found[row["kind"]] += int(row["held"])
+    return {kind: f"{held:,}" for kind, held in found.items()}
+
+
+def tick_trials(_work: Path) -> Iterator[Told]:
+    """An axis begins at 0, ends at or behind the largest amount, and has a few labels with equal steps between them."""
+    for most in (0, 1, 3, 4, 5, 7, 9, 99, 100, 101, 924_000, 10**6, 10**15, 2 * 10**20 + 1):
+        ticks = pictures.ticks_of(most)
+        steps = {after - before for before, after in zip(ticks, ticks[1:])}
+        is_so = ticks[0] == 0 and ticks[-1] >= most > ticks[-2] - (most == 0) and len(steps) == 1 and len(ticks) <= 6
+        yield f"an axis up to {most}", None if is_so else ticks
+
+
+def search_trials(work: Path) -> Iterator[Told]:
+    """One field finds accounts, holders, users, names, records, amounts and checks."""
+    desk, own = desk_of(work)
+    must_do(["label", "holder", "5501", "Kalkwerk <Nord>", *WHY, *own])
+    ana = desk.person()
+    for word, wanted in (
+        ("100210", 'href="/accounts/100210"'), ("5501", 'href="/accounts?q=5501"'), ("5101", 'href="/find?user=5101"'),
+        ("kalk", 'href="/accounts?q=5501">Holder Kalkwerk &lt;Nord&gt; (5501)</a>'),
+        ("notenough", 'href="/rules.html#'), ("<script>", "Nothing was found."), ("9" * 40, "Nothing was found."),
+        ("\u00b2", "Nothing was found."),
+    ):  # fmt: skip
+        told = ana.get("/search?q=" + urllib.parse.quote(word))
+        yield f"search {word}", told.page.faults or has(told, wanted)
+    rows = [*csv.DictReader(io.StringIO(Said("find", "--csv", *own).output))]
+    for row in rows:
+        words = [row["record"], *([row["amount"], f"{int(row['amount']):,}"] if row["amount"] else [])]
+        for word in words:
+            told = ana.get(f"/search?q={word}")
+            records = [cells[1] for cells in told.page.table("Log rows").rows]
+            yield f"search {word}", None if row["record"] in records else records
+    yield "nothing is asked", differs(ana.get("/search").page.tables, [])

@@ -13,7 +13,7 @@ from werkzeug.exceptions import HTTPException, NotFound, RequestEntityTooLarge
 from werkzeug.wrappers import Response
 
 from registry_tools import voice
-from registry_tools.desk import asks, coming, gate, heads, pages, posts, questions, shown, words
+from registry_tools.desk import asks, coming, gate, heads, pages, posts, questions, search, shown, words
 from registry_tools.desk.gate import Served
 from registry_tools.errors import FileFault, WordsFault
 from registry_tools.pages import beside, html
@@ -26,11 +26,13 @@ from registry_tools.texts.in_words import grouped
 
 # What is sent at once is at most as large as one file may be that is handed in.
 MOST_BYTES = limits.MOST_BYTES
-SECTIONS = {
-    "/": "Today", "/hand-in": "Hand in", "/next": "The next day", "/change": "Change", "/close": "Close",
-    "/days": "Days", "/accounts": "Accounts", "/compliance": "Compliance", "/due": "Due", "/month": "Months",
-    "/find": "Find", "/names": "Names", "/journal": "Journal", "/audit": "Audit", "/send": "Send",
-}  # fmt: skip
+GROUPS = {
+    "The day": {"/": "Today", "/hand-in": "Hand in", "/next": "The next day", "/change": "Change", "/close": "Close"},
+    "The registry": {"/accounts": "Accounts", "/find": "Find", "/days": "Days", "/month": "Months"},
+    "Duties": {"/compliance": "Compliance", "/due": "Due", "/send": "Send"},
+    "The folder": {"/names": "Names", "/journal": "Journal", "/audit": "Audit"},
+}
+SECTIONS = {path: name for group in GROUPS.values() for path, name in group.items()}
 # What tries a change, and takes it back: it is of no moment before.
 OF_TRIALS, LOOK = {"/undo"}, "/look/"
 # What a desk that only looks has no use for.
@@ -45,7 +47,8 @@ GET: dict[str, Callable[..., Any]] = {
     "/release": pages.release, "/name": pages.name, "/names": questions.names,
     "/accounts": questions.accounts, "/accounts/<int:number>": questions.account, "/compliance": questions.compliance,
     "/due": coming.page, "/due.<any(csv, xlsx, json, ics):kind>": coming.as_file,
-    "/month": questions.month_page, "/find": questions.find, f"/find.{FILES}": questions.find_file,
+    "/search": search.page, "/month": questions.month_page,
+    "/find": questions.find, f"/find.{FILES}": questions.find_file,
     f"/accounts.{FILES}": questions.accounts_file, f"/accounts/<int:number>/history.{FILES}": questions.history_file,
     f"/compliance.{FILES}": questions.compliance_file, f"/names.{FILES}": questions.names_file,
     "/table.<any(csv, xlsx):kind>": questions.table_file,
@@ -125,8 +128,9 @@ def changed(served: Served, view: Callable[..., Any]) -> Any:
 def failed(served: Served, error: Exception) -> Any:
     """What went wrong, on a page."""
     if isinstance(error, HTTPException):
-        own = error.description if isinstance(error, NotFound) and error.description != NotFound.description else None
-        return gate.said(error.code or 500, own or OTHER.get(error.code, f"{error.name}."))
+        own = error.description if isinstance(error, NotFound) and error.description != NotFound.description else ""
+        code = error.code or 500
+        return gate.said(code, str(own or OTHER.get(code, f"{error.name}.")))
     if isinstance(error, OSError):
         name = Path(str(error.filename or "the folder")).name
         return gate.said(500, f"{name}: it cannot be read or written: {error.strerror or 'for a reason not known'}")
@@ -138,13 +142,15 @@ def failed(served: Served, error: Exception) -> Any:
 
 def dress(app: flask.Flask, served: Served) -> None:
     """What all templates know."""
-    sections = {path: name for path, name in SECTIONS.items() if not (served.is_look and path in OF_CHANGES)}
+    hidden = OF_CHANGES if served.is_look else set()
+    groups = {of: {path: own[path] for path in own if path not in hidden} for of, own in GROUPS.items()}
     app.jinja_env.globals.update(
-        sections=sections, is_look=served.is_look, of_looking=OF_LOOKING, office=served.path.name,
+        groups=groups, is_look=served.is_look, of_looking=OF_LOOKING, office=served.path.name,
         token=lambda: flask.session["token"], once=lambda: secrets.token_hex(8), state=lambda: flask.g.state,
         who=lambda: gate.known_name(served), says_name=not (served.who or served.proxy or served.door),
         may_not=lambda: gate.may_not(served), apart=beside.apart, time=voice.time,
-        zone=words.zone, table=shown.sorted_table, acts=faults.ACT_WORDS, meaning=lambda name: form_checks()[name].meaning,
+        zone=words.zone, table=shown.sorted_table, acts=faults.ACT_WORDS,
+        meaning=lambda name: form_checks()[name].meaning,
     )  # fmt: skip
     app.jinja_env.filters.update(
         grouped=grouped, label=words.label, date=long_date,

@@ -85,7 +85,8 @@ def edits_asked(asked: list[tuple[str, str]]) -> list[Edit]:
     for count, (label_of, _) in enumerate(asked, 1):
         try:
             # (an account alone asks for nothing)
-            made = words_of_change.edits_of(parser.parse_args([word for _, word in asked[:count]])) if label_of else made
+            if label_of:
+                made = words_of_change.edits_of(parser.parse_args([word for _, word in asked[:count]]))
         except WordsFault as fault:
             raise WordsFault(f"{label_of}: {str(fault).partition(': ')[2] or fault}") from None
     return made or words_of_change.edits_of(parser.parse_args([word for _, word in asked]))

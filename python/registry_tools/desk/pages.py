@@ -4,6 +4,7 @@ import itertools
 import os
 from collections import Counter
 from collections.abc import Callable, Iterator, Mapping, Sequence
+from dataclasses import replace
 from typing import Any
 
 import flask
@@ -12,13 +13,14 @@ from werkzeug.exceptions import NotFound
 from registry_tools import voice
 from registry_tools.calendars.dates import date_of
 from registry_tools.cli.close import compliant_told
-from registry_tools.desk import asks, forms, gate, looks, shown
+from registry_tools.desk import asks, forms, gate, looks, pictures, shown
 from registry_tools.desk.gate import Served
 from registry_tools.desk.reading import Reading
 from registry_tools.desk.shown import asked, number_asked, row_of_taken, show_page, sorted_table
 from registry_tools.errors import FileFault, WordsFault
 from registry_tools.notes import LOOK
-from registry_tools.office import approvals, handed, release as releasing, undo as undoing
+from registry_tools.office import approvals, approve, handed, release as releasing, undo as undoing
+from registry_tools.office.office import Office
 from registry_tools.office.trial import Looked, whys
 from registry_tools.office.waits import waits_of
 from registry_tools.pages import summary
@@ -26,9 +28,10 @@ from registry_tools.pages.beside import item_in_words
 from registry_tools.pages.html import Markup, link, paragraph, tag
 from registry_tools.pages.plan import plan_parts
 from registry_tools.pages.settled import (
-    OUTCOMES, Settled, by_hand_parts, kind_of, long_date, outcome_in_words, record_in_words,
+    OUTCOMES, Settled, by_hand_parts, joined_words, kind_of, long_date, outcome_in_words, record_in_words,
 )  # fmt: skip
 from registry_tools.pairs import settling
+from registry_tools.pairs.compliance import last_year_over
 from registry_tools.questions import due, taken
 from registry_tools.second import faults, rules
 from registry_tools.sheets import form
@@ -42,8 +45,8 @@ WAITING = ["Due", "Record", "Instruction"]
 # What there are empty tables of.
 EMPTY = [own for own in form.WHAT if own != form.LABELS]
 SECOND = "by the second answer alone: then nothing is proved"
-# So many dates are told that come next.
-MOST_COMING = 5
+# So many dates are told that come next, and over so many days holdings are shown.
+MOST_COMING, DAYS_HELD = 5, 22
 RELEASED = (
     "Released says that others know of a day: letters were sent, or somebody was told what it has. From then on it is "
     "not undone any more, and that is not taken back: what is wrong in it, an instruction of a later day corrects."
@@ -63,17 +66,60 @@ def today(served: Served) -> Any:
         (str(w.due or "no due day in the calendar"), w.record, instruction_in_words(w.instruction))
         for w in waits_of(office)
     ]
-    new: list[Looked] = []
+    looked: list[Looked] = []
     # (where the next day cannot be made, its own page says why)
     with contextlib.suppress(WordsFault):
-        new = [tried for tried in own.tried(None)[1] if tried.is_new] if items or waits else []
+        looked = own.tried(None)[1] if items or waits else []
+    seconds = [(waiting, looks.look_at_waiting(own, handed_in, waiting.part))
+               for waiting in approvals.all_waiting(office, handed_in)]  # fmt: skip
+    mine = [own for own in seconds if is_for(served, office, own[0])]
+    name = office.settings.name
     return show_page(
-        "today", "Today", last=last, is_released=office.events.is_released(), items=items, waits=waits, came=own.came,
+        "today", f"{name}, today" if name else "Today", last=last, is_released=office.events.is_released(),
+        items=items, waits=waits, came=own.came,
         missed=due.missed_days(office), taken=[*map(row_of_taken, taken.of(handed_in))],
         coming=due.next_dates(office, MOST_COMING), dates=own.dates(), doubts=due.doubts_of_last(office),
-        new=new, seconds=[(waiting, looks.look_at_waiting(own, handed_in, waiting.part))
-                          for waiting in approvals.all_waiting(office, handed_in)],
+        new=[tried for tried in looked if tried.is_new], mine=mine, figures=figures_of(looked, len(seconds)),
+        seconds=[own for own in seconds if own not in mine], **standing_now(own),
     )  # fmt: skip
+
+
+def figures_of(looked: list[Looked], seconds: int) -> list[tuple[str, int, str]]:
+    """The figures of the next day as it stands, each with what shows more."""
+    return [
+        ("would be done", sum(tried.outcome == "done" for tried in looked), "/next"),
+        ("would be refused", sum(tried.is_refused for tried in looked), "/next?only=refused"),
+        ("would wait", sum(tried.waits for tried in looked), "/next?only=waiting"),
+        ("wait for another login", seconds, "/#seconds"),
+    ]
+
+
+def is_for(served: Served, office: Office, waits: approvals.Waits) -> bool:
+    """Whether who is at this browser may approve it."""
+    if waits.part is None or served.is_look:
+        return False
+    with contextlib.suppress(WordsFault):
+        mine = replace(office, login=gate.by(served).login)
+        approve.must_be_other(mine, (approvals.COMMAND_OF[waits.part.kind],), waits.part.who, waits.part.login)
+        return True
+    return False
+
+
+def standing_now(own: Reading) -> dict[str, Any]:
+    """What all accounts hold, and who is missing how much by when, after the last day, if there is one."""
+    settled = own.settled()
+    if settled is None:
+        return {}
+    year, held = last_year_over(settled.head), own.held_over(DAYS_HELD)
+    missing = [(one.account.number, int(one.missing), one.account.holder) for one in own.standings(year) if one.missing]
+    until, most = own.office().settings.due.surrender_of(year), max((row[1] for row in missing), default=0)
+
+    def cells(row: Sequence[Any]) -> Sequence[Any]:
+        account = link(f"/accounts/{row[0]}", own.names().account(row[0]))
+        return joined_words(account, own.names().holder(row[2])), grouped(row[1]), pictures.length_of(row[1], most)
+
+    return {"held": pictures.holdings(held), "year": year, "until": long_date(until) if until else "",
+            "missing": sorted(missing, key=lambda row: -int(row[1])), "shown_missing": cells}  # fmt: skip
 
 
 def hand_in(served: Served) -> Any:

@@ -140,9 +140,9 @@ def compliance(served: Served) -> Any:
     if settled is None:
         return gate.said(400, gate.NO_DAY)
     year, word = number_asked("year") or answers.last_year_over(settled.head), asked("deadline")
-    office, standings = own.office(), answers.standings(settled.day, settled.report, year)
+    office = own.office()
     deadline = date_of(NAMES_OF_DATES["deadline"], word) if word else office.settings.due.surrender_of(year)
-    rows = own.once(("standings", year), own.state_of_days(), lambda: sorted(standings, key=standing.order))
+    rows = own.standings(year)
     return show_page(
         "compliance", f"Compliance for {year}", year=year, rows=[*map(row_of_standing, rows)], columns=COLUMNS,
         counts=standing.counts_table(rows) if rows else "", until=until_in_words(settled.head.date, deadline),
@@ -319,7 +319,7 @@ def job(served: Served, number: str) -> Any:
         leads = (f"/days/{date}", "To the day")
     if there.status == 0 and there.made():
         leads = (f"/jobs/{number}/packages.zip", "Download the packages")
-    ended = {None: "at work"}.get(there.status, "nothing was done" if there.is_fault() else "done")
+    ended = "at work" if there.status is None else "nothing was done" if there.is_fault() else "done"
     return show_page(
         "job", f"{voice.page_of(there.command)}: {ended}", job=there, status=there.status, leads=leads,
         has_changed=bool(there.seen) and there.seen != flask.g.state, refresh=2 if there.status is None else None,

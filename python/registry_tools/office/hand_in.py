@@ -57,12 +57,6 @@ def hand_in(office: Office, by: By, asked: HandIn) -> Added:
         return own
 
 
-def look_at(office: Office, by: By, asked: HandIn) -> Added:
-    """What handing in would give. Nothing is handed in."""
-    with office.trying("hand-in", by):
-        return added(office, asked)
-
-
 def added(office: Office, asked: HandIn) -> Added:
     """Hands files in, in a change of the folder."""
     handed_in = approvals.handed_in_of(office)
