@@ -17,6 +17,7 @@ import desks
 from desk_looks import MONDAY, TUESDAY, WEEK, WHY, Told, close, desk_of, has
 from harness import Said, differs
 from offices import must_do, must_do_either
+from second_login import desk as named, with_lines
 from spreadsheets import SHEET_PART, replace_in, write_kept
 
 from registry_tools.desk import forms, pictures
@@ -30,7 +31,10 @@ WORKBOOK = "instructions.xlsx"
 def work_trials(work: Path) -> Iterator[Told]:
     """All trials of this file."""
     work.mkdir()
-    for trials in (list_trials, hidden_trials, restart_trials, kept_trials, today_trials, tick_trials, search_trials):
+    for trials in (
+        list_trials, hidden_trials, restart_trials, kept_trials, today_trials, tick_trials, search_trials,
+        figure_trials, approve_trials, instruction_trials,
+    ):  # fmt: skip
         yield from trials(work / trials.__name__)
 
 
@@ -210,3 +214,104 @@ def search_trials(work: Path) -> Iterator[Told]:
             records = [cells[1] for cells in told.page.table("Log rows").rows]
             yield f"search {word}", None if row["record"] in records else records
     yield "nothing is asked", differs(ana.get("/search").page.tables, [])
+
+
+def figure_trials(work: Path) -> Iterator[Told]:
+    """A refusal says what was found: before the yes, behind it, in `try`, in the log and the letter of the day, and of
+    a day text that nobody keeps."""
+    desk, own = desk_of(work)
+    ana = desk.person()
+    row = f"do,{TUESDAY},5101,5102,surrender,100210,general,999999999\n".encode()
+    found = "Account 100210 holds 38,400 general, 999,999,999 are asked: 999,961,599 lack."
+    looked = ana.send("/hand-in", "/hand-in/look", {"a.csv": row})
+    yield "before the yes", has(looked, found)
+    yield "behind it", has(ana.yes(looked, "/hand-in/take"), found)
+    yield "the next day", has(ana.get("/next"), found)
+    tried = Said("try", *own).output
+    yield "try", None if f"\n1: {found}\n" in tried else tried
+    must_do(close(TUESDAY, own))
+    logged = Said("log", "--refused", "--day", TUESDAY, *own).output
+    yield "log", None if f"{found} Lower the amount" in logged else logged
+    must_do(["send", str(work / "letters"), "--holder", "5501", *own])
+    letter = next((work / "letters").glob("*.html")).read_text()
+    yield "the letter of its holder", None if found in letter else letter[-900:]
+    must_do(["unpack", str(work / "unpacked"), *own])
+    told = Said("explain", work / "unpacked" / TUESDAY / "day.csv").output
+    yield "explain", None if f"would be refused, NotEnough: {found}" in told else told
+
+
+def approve_trials(work: Path) -> Iterator[Told]:
+    """What is approved is shown as a whole, several at once; from a page of before it is approved only if it is the
+    same still, and what is not any more leads back to where it is asked again."""
+    first, own = desk_of(work)
+    with_lines(first.office, named(), "hand-in, change, close")
+    desk = desks.Desk(first.office, work / "approve", header="X-User")
+    desk.served.jobs.begin = desks.at_once
+    anna, bert = (desk.person(**{"X-User": login}) for login in ("anna", "bert"))
+    row = f"do,{TUESDAY},5101,5102,surrender,100210,general,"
+    for place, amount in enumerate((7, 999999999)):
+        (work / f"{place}.csv").write_text(f"{row}{amount}\n")
+        must_do_either(["hand-in", str(work / f"{place}.csv"), "--for", "anna", *own])
+    must_do_either(["change", "100377", "--holder", "5599", "--yes", *WHY, "--for", "anna", *own])
+    page = bert.get("/approve")
+    wanted = ("surrender of 7 general from 100210: done", "lack.", "holder: 5502", "holder: 5599")
+    yield "all is shown", has(page, *wanted)
+    form = page.page.form("/approve")
+    yield "each may be chosen", differs(len(form.choices["place"]), 3)
+    yield "not by who asked", has(anna.get("/approve"), "For somebody else")
+    yield "nothing is chosen", differs(bert.post("/approve", form.fields).status, 400)
+    one, two, three = form.choices["place"]
+    must_do_either(["label", "holder", "5501", "Kalkwerk", *WHY, "--for", "anna", *own])
+    told = bert.follow(bert.post("/approve", {**form.fields, "place": [one, two]}))
+    yield "several at once, whatever else was done", has(told, "approved: place 1", "approved: place 2", "Done.")
+    yield "one is left", differs(bert.get("/approve").page.form("/approve").choices["place"], [three])
+    late = bert.get("/approve").page.form("/approve")
+    must_do_either(["change", "100377", "--user=+5299:both", "--yes", *WHY, "--for", "bert", *own],
+                   ["approve", "4", "--for", "anna", *own],
+                   ["take-back", three, *WHY, "--for", "anna", *own])  # fmt: skip
+    told = bert.follow(bert.post("/approve", {**late.fields, "place": three}))
+    yield "what is not there any more", has(told, "somebody changed the folder", "nothing was done", "Look once more")
+    must_do_either(["close", "--date", TUESDAY, "--second", "--yes", "--for", "anna", *own])
+    asked = bert.get("/approve").page.form("/approve")
+    must_do_either(["change", "100377", "--holder", "5598", "--yes", *WHY, "--for", "anna", *own],
+                   ["approve", "5", "--for", "bert", *own])  # fmt: skip
+    told = bert.follow(bert.post("/approve", asked.fields))
+    yield "a close that is another one leads to where it is asked", has(told, f'href="/close?date={TUESDAY}"')
+
+
+def instruction_trials(work: Path) -> Iterator[Told]:
+    """An instruction from the page of an account to its yes and to the next one: who may propose and approve, what the
+    account holds, names in place of numbers, and what would come of it with its figures."""
+    desk, own = desk_of(work)
+    must_do(["label", "account", "100210", "Kalkwerk Nord", *WHY, *own], ["label", "user", "5101", "Ana", *WHY, *own],
+            ["label", "user", "5102", "Ben", *WHY, *own])  # fmt: skip
+    ana = desk.person()
+    yield "an account leads there", has(ana.get("/accounts/100210"), 'href="/hand-in?of=100210#one"')
+    for of in ("100210", "Kalkwerk+Nord"):
+        page = ana.get(f"/hand-in?act=surrender&of={of}")
+        yield f"the account is told, {of}", page.page.faults or has(
+            page, "Kalkwerk Nord, operator of 5501, open: general 38,400, aviation 0", "<dd>Ana (5101)", "Ben (5102)"
+        )
+        form = next(each for each in page.page.forms if "amount" in each.fields)
+        yield f"and is filled in, {of}", differs(form.fields["from"], "100210")
+    lists = re.findall('<datalist id="(propose|approve)">(.*?)</datalist>', page.text, re.DOTALL)
+    rows = [row.split(",") for row in (WEEK / "monday.csv").read_text().splitlines()]
+    users, is_own = {"propose": set[str](), "approve": set[str]()}, False
+    for row in rows:
+        is_own = row[1] == "100210" if row[0] == "account" else is_own
+        for right in users if is_own and row[0] == "user" else ():
+            users[right] |= {row[1]} if row[2] in (right, "both") else set()
+    found = {right: {*re.findall('value="([0-9]+)"', own)} for right, own in lists}
+    yield "who may propose and approve", differs(found, users)
+    yield "who may not approve is told", has(ana.get("/hand-in?act=trust&of=900001"), "Nobody may approve this")
+    typed: dict[str, Any] = {"act": "surrender", "proposer": "Ana", "approver": "Ben", "from": "Kalkwerk Nord"}
+    typed |= {"kind": "general", "amount": "40000"}
+    looked = ana.send("/hand-in", "/hand-in/look", **typed, other_day=TUESDAY)
+    yield "with its figures", has(looked, "Account 100210 holds 38,400 general, 40,000 are asked: 1,600 lack.")
+    less: dict[str, Any] = {**typed, "amount": "400"}
+    looked = ana.send("/hand-in", "/hand-in/look", **less, other_day=TUESDAY)
+    done = ana.yes(looked, "/hand-in/take")
+    yield "and a next one", has(done, "Done.", 'href="/hand-in?act=surrender#one"')
+    less["from"] = "Kalk <b>"
+    wrong = ana.send("/hand-in", "/hand-in/look", **less, other_day=TUESDAY)
+    yield "a name of nothing", has(wrong, "Account that gives: ", "Back to what was typed")

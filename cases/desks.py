@@ -210,7 +210,8 @@ class Person:
         own = {**self.headers, **(headers or {})}
         # (without redirects: where one leads is looked at)
         answer = self.client.open(path, method=method, headers=own, **more)
-        if answer.mimetype == "text/html" and path not in DOCUMENTS:
+        # (what was typed stands in the address to which a form leads)
+        if answer.mimetype == "text/html" and path not in DOCUMENTS and answer.status_code != 303:
             look_for_commands(f"{method} {path}", answer.data.decode())
         return Answer(answer.status_code, dict(answer.headers), answer.data, path)
 

@@ -267,7 +267,9 @@ def all_trials(work: Path, leave_out: Callable[[str, LeftOut], None]) -> Told:
         finally:
             status = desk.end()
         yield "Ctrl-C ends it", differs(status, 0)
-        yield "its sockets are gone", [name for name in os.listdir(place) if name.startswith(path.name)]
+        left = [name for name in os.listdir(place) if name.startswith(path.name)]
+        yield "its sockets are gone, and what it keeps is there", differs(left, [f"{path.name}.kept"])
+        yield "which nobody else reads", differs((place / left[0]).stat().st_mode & 0o777, 0o600)
         status, said = owner.day("audit", "--second", "--office", office)
         yield "audit of the folder", None if ": 0 differences" in said else (status, said)
         yield "no key or cookie in the log", [word for word in Visitor.secrets if word in desk.said()]

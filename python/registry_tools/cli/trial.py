@@ -60,6 +60,7 @@ def tell(looked: list[Looked], next_day: NextDay, places: set[int] | None = None
         print(note)
     if any(tried.outcome != "done" for tried in shown):
         print("\n".join(table_of([tried for tried in shown if tried.outcome != "done"])))
+    print("".join(f"{tried.place or trial.WAITED}: {tried.why}\n" for tried in refused), end="")
     print("".join(f"{name}: {said}\n" for name, said in trial.whys(shown).items()), end="")
     if shown or places is None:
         print(f"{'' if places is None else 'of these, '}as it stands, on {next_day.date}: {trial.counts_of(shown)}")

@@ -47,7 +47,7 @@ GET: dict[str, Callable[..., Any]] = {
     "/release": pages.release, "/name": pages.name, "/names": questions.names,
     "/accounts": questions.accounts, "/accounts/<int:number>": questions.account, "/compliance": questions.compliance,
     "/due": coming.page, "/due.<any(csv, xlsx, json, ics):kind>": coming.as_file,
-    "/search": search.page, "/month": questions.month_page,
+    "/approve": pages.approve_page, "/search": search.page, "/month": questions.month_page,
     "/find": questions.find, f"/find.{FILES}": questions.find_file,
     f"/accounts.{FILES}": questions.accounts_file, f"/accounts/<int:number>/history.{FILES}": questions.history_file,
     f"/compliance.{FILES}": questions.compliance_file, f"/names.{FILES}": questions.names_file,

@@ -55,7 +55,8 @@ def uploaded(served: Served, page: str, said: dict[str, list[str]]) -> str:
     or a name needs none. Raises WordsFault if an instruction needs one."""
     chosen = [own for own in flask.request.files.getlist("files") if own.filename]
     is_typed = page == "/hand-in" and any(said.get("act", ()))
-    rows = forms.rows_of_instruction(Asked(page, said, "").first()) if is_typed else b""
+    typed = forms.numbers_in(Asked(page, said, "").first(), served.reading.names()) if is_typed else {}
+    rows = forms.rows_of_instruction(typed) if is_typed else b""
     if not chosen and not rows:
         if page == "/hand-in":
             raise WordsFault("no file was chosen")

@@ -10,9 +10,9 @@ from typing import Iterable, Iterator, Mapping, Sequence
 from registry_tools.desk.reading import Reading
 from registry_tools.desk.words import LAGS, label
 from registry_tools.errors import WordsFault, shown
-from registry_tools.texts.labels import ACCOUNT, Labels
+from registry_tools.texts.labels import ACCOUNT, USER, Labels
 from registry_tools.pages.beside import called
-from registry_tools.second import faults, rules
+from registry_tools.second import faults, passing, rules
 from registry_tools.sheets import columns as sheets
 from registry_tools.sheets import importing
 from registry_tools.sheets.sheets import read_content
@@ -83,8 +83,47 @@ OF_NEW = [
 ]  # fmt: skip
 
 
-def instruction_fields(own: Reading, act: str) -> list[Field]:
-    """What the form of an instruction asks for."""
+def account_meant(own: Reading, word: str) -> int | None:
+    """The account that a word names by its number or its name; None, if it names none that is there."""
+    with contextlib.suppress(WordsFault):
+        number = int(word) if word.isascii() and word.isdigit() else int(own.names().one(word, ACCOUNT).number)
+        return number if number in own.text_of_next().book else None
+    return None
+
+
+def users_entitled(own: Reading, act: str, number: int | None) -> dict[str, list[tuple[int, str]]]:
+    """Who may propose and approve an act for an account, with their names; nobody, if none is named."""
+    if number is None:
+        return {right: [] for right in ("propose", "approve")}
+    day, names = own.text_of_next(), own.names()
+    account = day.book[number].account()
+    there = {right: passing.entitled(day.head, account, act, right) for right in ("propose", "approve")}
+    return {right: [(user, names.user(user)) for user in users] for right, users in there.items()}
+
+
+def told_of_account(own: Reading, number: int) -> str:
+    """What somebody knows an account by, and what it holds before the next day."""
+    row = own.text_of_next().book[number].rows[0].split(",")
+    return f"{number}: {account_offered(row, own.names())}"
+
+
+def numbers_in(said: Said, names: Labels) -> dict[str, str]:
+    """What a form says, with the numbers of accounts and users in place of their names. Raises WordsFault if something
+    has no such name, or several have."""
+    kinds = {**dict.fromkeys(OF_ACCOUNTS, ACCOUNT), "proposer": USER, "approver": USER}
+    found = {name: word.strip() for name, word in said.items()}
+    for name, kind in kinds.items():
+        word = found.get(name, "")
+        if word and not word.isdigit() and names.named:
+            try:
+                found[name] = names.one(word, kind).number
+            except WordsFault as fault:
+                raise WordsFault(f"{label(name)}: {fault}") from None
+    return found
+
+
+def instruction_fields(own: Reading, act: str, of: int | None = None) -> list[Field]:
+    """What the form of an instruction asks for, with the account that it is of, if one is named."""
     now: object = OTHER
     proposed = [now]
     # (where the next day cannot be made, its own page says why)
@@ -96,9 +135,10 @@ def instruction_fields(own: Reading, act: str) -> list[Field]:
     return [
         Field("proposed", label("proposed"), now, proposed),
         Field("other_day", "Another day, as 2025-09-24, if it is none of these", more=""),
-        Field("proposer", label("proposer"), more=NEEDED), Field("approver", "User who approves, if there is one"),
-        *(Field(name, label(name), "", CHOICES.get(name, ()),
-                more=NUMERIC + (' list="accounts"' if name in OF_ACCOUNTS else "")) for name in columns),
+        Field("proposer", label("proposer"), more='required list="propose"'),
+        Field("approver", "User who approves, if there is one", more='list="approve"'),
+        *(Field(name, label(name), of or "" if name == passing.FIRST[act] else "", CHOICES.get(name, ()),
+                more='list="accounts"' if name in OF_ACCOUNTS else NUMERIC) for name in columns),
     ]  # fmt: skip
 
 

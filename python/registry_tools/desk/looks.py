@@ -1,15 +1,17 @@
 """What would come of files, of changes by hand, of names and of taking a day back, before somebody says yes: by the
 functions behind the commands, whose change of the folder is taken back at once."""
+import contextlib
 import datetime
-import functools
-from dataclasses import dataclass, field
+from dataclasses import dataclass, field, replace
 from typing import Any
 
 from registry_tools.cli import change as words_of_change, label as words_of_names
 from registry_tools.desk.reading import Reading
 from registry_tools.desk.words import label
 from registry_tools.errors import FileFault, WordsFault
-from registry_tools.office import approvals, change, hand_in, handed, label as labelling, trial, undo
+from registry_tools.office import (
+    approvals, approve, change, composing, hand_in, handed, label as labelling, trial, undo,
+)  # fmt: skip
 from registry_tools.office.change import Change, Changed
 from registry_tools.office.hand_in import HandIn
 from registry_tools.office.handed import HandedIn, Part
@@ -98,12 +100,47 @@ def look_at_change(own: Reading, by: By, edits: list[Edit]) -> Changed:
         return change.change_by_hand(office, by, Change(tuple(edits), NO_REASON))
 
 
-def look_at_waiting(own: Reading, handed_in: HandedIn, part: Part | None) -> Rows:
-    """What a change that waits for another login makes of the next day: what was there, and what it becomes."""
+@dataclass
+class Second:
+    """What waits for another login: what it is, the rows of a change before and after, the instructions and working
+    days in words with what would come of them, and the sum of all that, by which it is approved as it was shown."""
+
+    waits: approvals.Waits
+    rows: Rows = field(default_factory=list)
+    items: list[tuple[str, str]] = field(default_factory=list)
+    sum: str = ""
+
+
+def look_at_waiting(own: Reading, handed_in: HandedIn, waits: approvals.Waits) -> Second:
+    """What something that waits for another login makes of the next day."""
+    part = waits.part
     if part is None:
-        return []
-    look = functools.partial(change.look_at_waiting, own.office(), handed_in, part)
-    return [*side_by_side(own.of_next(f"place {part.start}", own.dates()[0], look))]
+        return Second(waits)
+
+    def work() -> Second:
+        assert part is not None
+        office, rows = own.office(), approve.rows_left(handed_in, part)
+        becomes, outcomes = change.look_at_waiting(office, handed_in, part), outcomes_with(own, handed_in, part)
+        there = [item for item in handed_in.items_left(part)] if part.kind in (handed.DO, handed.WORK) else []
+        items = [(item_in_words(item), outcomes.get(item.place, "")) for item in there]
+        return Second(waits, [*side_by_side(becomes)], items, sum_of_outcome([*rows, *becomes]))
+
+    return own.of_next(f"place {part.start}", own.dates()[0], work)
+
+
+def outcomes_with(own: Reading, handed_in: HandedIn, part: Part) -> dict[int, str]:
+    """What would come of instructions that wait for another login, by their places, if they counted."""
+    if part.kind != handed.DO:
+        return {}
+    others = [each for each in handed_in.waiting if each.start != part.start]
+    # (what keeps them out of the next day is told where that day is made)
+    with contextlib.suppress(WordsFault, FileFault):
+        office = own.office()
+        date = composing.settlement_date(office, handed_in)
+        next_day = composing.compose(office, replace(handed_in, waiting=others).until(date), date)
+        looked = trial.look(next_day, next_day.day(), own.names())
+        return {tried.place: f"{tried.said()} {tried.why}".rstrip() for tried in looked if tried.place is not None}
+    return {}
 
 
 def look_at_undo(own: Reading, by: By, last: datetime.date, date: datetime.date) -> tuple[Rows, Rows, str]:

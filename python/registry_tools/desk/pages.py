@@ -33,7 +33,7 @@ from registry_tools.pages.settled import (
 from registry_tools.pairs import settling
 from registry_tools.pairs.compliance import last_year_over
 from registry_tools.questions import due, taken
-from registry_tools.second import faults, rules
+from registry_tools.second import faults, passing, rules
 from registry_tools.sheets import form
 from registry_tools.texts.books import Sums, sums_of, sums_told
 from registry_tools.texts.in_words import grouped, instruction_in_words
@@ -70,9 +70,8 @@ def today(served: Served) -> Any:
     # (where the next day cannot be made, its own page says why)
     with contextlib.suppress(WordsFault):
         looked = own.tried(None)[1] if items or waits else []
-    seconds = [(waiting, looks.look_at_waiting(own, handed_in, waiting.part))
-               for waiting in approvals.all_waiting(office, handed_in)]  # fmt: skip
-    mine = [own for own in seconds if is_for(served, office, own[0])]
+    seconds = [looks.look_at_waiting(own, handed_in, waits) for waits in approvals.all_waiting(office, handed_in)]
+    mine = [each for each in seconds if is_for(served, office, each.waits)]
     name = office.settings.name
     return show_page(
         "today", f"{name}, today" if name else "Today", last=last, is_released=office.events.is_released(),
@@ -80,8 +79,17 @@ def today(served: Served) -> Any:
         missed=due.missed_days(office), taken=[*map(row_of_taken, taken.of(handed_in))],
         coming=due.next_dates(office, MOST_COMING), dates=own.dates(), doubts=due.doubts_of_last(office),
         new=[tried for tried in looked if tried.is_new], mine=mine, figures=figures_of(looked, len(seconds)),
-        seconds=[own for own in seconds if own not in mine], **standing_now(own),
+        seconds=[each for each in seconds if each not in mine], **standing_now(own),
     )  # fmt: skip
+
+
+def approve_page(served: Served) -> Any:
+    """The page of what waits for another login, each as a whole, of which who may approve several chooses some."""
+    own = served.reading
+    office, handed_in = own.office(), own.handed_in()
+    there = [looks.look_at_waiting(own, handed_in, waits) for waits in approvals.all_waiting(office, handed_in)]
+    mine = {each.waits.words for each in there if is_for(served, office, each.waits)}
+    return show_page("approve", "Approve", there=there, mine=mine)
 
 
 def figures_of(looked: list[Looked], seconds: int) -> list[tuple[str, int, str]]:
@@ -90,7 +98,7 @@ def figures_of(looked: list[Looked], seconds: int) -> list[tuple[str, int, str]]
         ("would be done", sum(tried.outcome == "done" for tried in looked), "/next"),
         ("would be refused", sum(tried.is_refused for tried in looked), "/next?only=refused"),
         ("would wait", sum(tried.waits for tried in looked), "/next?only=waiting"),
-        ("wait for another login", seconds, "/#seconds"),
+        ("wait for another login", seconds, "/approve"),
     ]
 
 
@@ -125,8 +133,12 @@ def standing_now(own: Reading) -> dict[str, Any]:
 def hand_in(served: Served) -> Any:
     """The page with the forms for instructions and files."""
     act, own = asked("act") if asked("act") in faults.ACT_WORDS else "", served.reading
+    # (behind a no, the field has what was typed)
+    word = flask.request.args.get(passing.FIRST.get(act, "of"), "") or flask.request.args.get("of", "")
+    of = forms.account_meant(own, word.strip()) if word else None
     return show_page(
-        "hand_in", "Hand in", act=act, fields=forms.instruction_fields(own, act) if act else [], empty=EMPTY,
+        "hand_in", "Hand in", act=act, fields=forms.instruction_fields(own, act, of) if act else [], empty=EMPTY,
+        of=of, of_account=forms.told_of_account(own, of) if of else "", users=forms.users_entitled(own, act, of),
         known=forms.accounts_offered(own) if act else [], cut=forms.cut_told(own), dates=forms.DATES, later=forms.LATER,
         look=asked("look"), chosen=asks.chosen(served, asked("look")),
     )  # fmt: skip

@@ -11,6 +11,7 @@ from registry_tools.desk.gate import Served
 from registry_tools.desk.jobs import FORGOTTEN, Asked
 from registry_tools.desk.shown import form, back_of_form
 from registry_tools.errors import WordsFault
+from registry_tools.office.office import sum_of_outcome
 from registry_tools.office.people import MAY_WAIT
 
 ONCE, STATE = re.compile("[0-9a-f]{16}"), re.compile("[0-9a-f]{64}")
@@ -115,10 +116,14 @@ def release(served: Served) -> Any:
 
 
 def approve(served: Served) -> Any:
-    """Has what waits for another login approved. Who is named by a word alone approves as the login of the desk."""
-    place, command, date = form("place"), form("command"), form("day")
-    if PLACE.fullmatch(place):
-        return do(served, "approve", "--", place)
+    """Has what waits for another login approved, as it was shown. Who is named by a word alone approves as the login of
+    the desk. Raises WordsFault if nothing was chosen."""
+    places, command, date = flask.request.form.getlist("place"), form("command"), form("day")
+    if places and all(map(PLACE.fullmatch, places)):
+        shown = sum_of_outcome(form(f"shown-{place}") for place in places)
+        return do(served, "approve", f"--shown={shown}", "--", *places)
+    if form("several"):
+        raise WordsFault("nothing was chosen")
     if command not in MAY_WAIT:
         raise WordsFault(NOT_WHOLE)
     return do(served, "approve", f"--date={date}", "--", command)

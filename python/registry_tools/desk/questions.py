@@ -21,7 +21,7 @@ from registry_tools.desk import gate
 from registry_tools.desk.gate import Served
 from registry_tools.desk.reading import Reading
 from registry_tools.desk.shown import TYPED, asked, number_asked, row_of_taken, show_page
-from registry_tools.errors import WordsFault
+from registry_tools.errors import FOUND, WordsFault
 from registry_tools.notes import BY_HAND
 from registry_tools.office import approvals
 from registry_tools.pages import compliance as standing
@@ -319,9 +319,11 @@ def job(served: Served, number: str) -> Any:
         leads = (f"/days/{date}", "To the day")
     if there.status == 0 and there.made():
         leads = (f"/jobs/{number}/packages.zip", "Download the packages")
+    asked_for = served.jobs.asked_for("/hand-in", there.back.rpartition("/")[2].partition("?")[0])
+    act = asked_for.first().get("act", "") if asked_for and there.status in (0, FOUND) else ""
     ended = "at work" if there.status is None else "nothing was done" if there.is_fault() else "done"
     return show_page(
-        "job", f"{voice.page_of(there.command)}: {ended}", job=there, status=there.status, leads=leads,
+        "job", f"{voice.page_of(there.command)}: {ended}", job=there, act=act, status=there.status, leads=leads,
         has_changed=bool(there.seen) and there.seen != flask.g.state, refresh=2 if there.status is None else None,
     )  # fmt: skip
 

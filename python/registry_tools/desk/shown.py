@@ -14,7 +14,7 @@ from registry_tools.desk.jobs import KEY
 from registry_tools.errors import WordsFault
 from registry_tools.office import trial
 from registry_tools.pages.beside import item_in_words
-from registry_tools.pages.html import Markup, Table, joined, link, paragraph, sort_key, tag
+from registry_tools.pages.html import Markup, Table, joined, link, markup, paragraph, sort_key, tag
 from registry_tools.questions import taken
 
 # The word of an address that only fills the form of a page with what was typed.
@@ -22,9 +22,10 @@ TYPED = "typed"
 NUMBER = re.compile("[1-9][0-9]{0,8}", re.ASCII)
 # What is expected of a number.
 EXPECTED = {"account": "the number of an account", "year": "a year, as 2024"}
-# The words of a form that its page makes; those of a look; of a field so much is kept in the way back; and forms that
-# have no page of their own.
-OF_PAGE, OF_LOOKS, LONGEST_FIELD, OF_TODAY = {"token", "once", "state", "shown"}, {"look", "again"}, 200, {"/approve"}
+# The words of a form that its page makes; those of a look; and so much of a field is kept in the way back.
+OF_PAGE, OF_LOOKS, LONGEST_FIELD = {"token", "once", "state", "shown"}, {"look", "again"}, 200
+# Where a command is asked for once more, and by which word of its page, if it cannot be approved any more.
+ASKED_AGAIN = {"close": "date", "undo": "day", "release": "day"}
 # How many rows of a table a page shows, and how many pages are named beside it.
 ROWS, NEAR = 100, 4
 
@@ -74,15 +75,18 @@ def back_of_form() -> str:
     page = "/" + flask.request.path.split("/")[1]
     if KEY.fullmatch(form("look")):
         return f"{page}/look/{form('look')}"
+    if page == "/approve" and form("command") in ASKED_AGAIN:
+        # (what is not so any more is asked for once more)
+        return address_of(f"/{form('command')}", {ASKED_AGAIN[form("command")]: form("day")})
     said = flask.request.form.to_dict(flat=False)
     typed = {name: own for name, own in said.items() if name not in OF_PAGE | OF_LOOKS and any(own)}
     own = {name: [word[:LONGEST_FIELD] for word in words] for name, words in typed.items()}
-    return address_of("/" if page in OF_TODAY else page, {**own})
+    return address_of(page, {**own})
 
 
 def outcome(own: trial.Looked) -> object:
-    """The outcome of an instruction; strong, if it is refused."""
-    return tag("strong", own.said()) if own.is_refused else own.said()
+    """The outcome of an instruction; strong, if it is refused, and with what was found."""
+    return Markup(f"{tag('strong', own.said())} {markup(own.why)}") if own.is_refused else own.said()
 
 
 def row_of_taken(own: taken.TakenBack) -> tuple[object, ...]:

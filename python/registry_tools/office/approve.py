@@ -9,7 +9,7 @@ from registry_tools.errors import WordsFault
 from registry_tools.office import approvals, change, composing, handed, people
 from registry_tools.office.approvals import COMMAND_OF, Asked
 from registry_tools.office.handed import HandedIn, Part
-from registry_tools.office.office import By, Office
+from registry_tools.office.office import By, Office, sum_of_outcome
 from registry_tools.office.people import MAY_WAIT
 from registry_tools.store.events import APPROVED
 
@@ -49,6 +49,7 @@ def approve_places(office: Office, by: By, places: tuple[str, ...]) -> list[Appr
             office.add(APPROVED, of=part.event.id, sum=sum_asked, name=where)
             by_whom = approvals.who_did(office, part.who, part.login)
             done.append(ApprovedPart(where, by_whom, part.name, rows_left(handed_in, part), becomes))
+        office.must_be_as_shown(by, [sum_of_outcome([*own.rows, *own.becomes]) for own in done])
     return done
 
 

@@ -34,6 +34,8 @@ class Looked:
     due: str
     # Its log row.
     log_row: str
+    # What was found, if it is refused.
+    why: str = ""
     is_new: bool = False
 
     @property
@@ -82,10 +84,11 @@ def look(next_day: NextDay, day: DayText, names: Labels = Labels()) -> list[Look
     """What would come of each instruction, in words with the names of accounts."""
     places = [*(None for _ in next_day.entered), *(item.place for item in next_day.new)]
     looked = []
-    for place, instruction, logged in zip(places, day.instructions, rules.settle(day.day())):
+    for place, instruction, logged in zip(places, day.instructions, rules.settle(day.day(), tells=True)):
         own, said = instruction.row, in_words.instruction_in_words(instruction, names.account)
         outcome = outcome_by_rules(logged, instruction)
-        looked.append(Looked(place, own, said, outcome, str(logged.due or ""), logged.line))
+        why = logged.passing.found if logged.passing and outcome != NOT_DUE else ""
+        looked.append(Looked(place, own, said, outcome, str(logged.due or ""), logged.line, why))
     return looked
 
 
