@@ -9,9 +9,9 @@ from collections.abc import Iterator
 from pathlib import Path
 from unittest import mock
 
-from damaged_office import Trial, Words, inside
+from damaged_office import Trial, Words
 from harness import TOP, Said, differs
-from offices import events_of, must_do, rows_of, text_of
+from offices import events_of, inside, must_do, rows_of, text_of
 
 from registry_tools.store.texts import Texts
 

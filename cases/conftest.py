@@ -4,6 +4,7 @@
 """
 from __future__ import annotations
 
+import re
 import sys
 from collections.abc import Iterator
 from pathlib import Path
@@ -27,6 +28,8 @@ from gate import trials  # noqa: E402
 BY_HAND = {"run-cases", "run-planted"}
 # The words after -k, which are read here: a script does not know the names of its trials before it makes them.
 WORDS = "words_of_k"
+# What nearly each script uses, and what gives no trials.
+SHARED = {"harness", "listening"}
 # What pytest calls that in which trials end.
 PASSED, FAILED = ("passed", "xpassed"), ("failed", "error", "xfailed")
 
@@ -109,9 +112,19 @@ def may_match(config: pytest.Config, item: pytest.Item) -> bool:
     """Whether the words after -k choose an item. A script may have a trial of a name that it has somewhere."""
     words = getattr(config.option, WORDS)
     if isinstance(item, Script):
-        text = item.path.read_text(encoding="utf-8")
-        return " not " in f" {words} " or words_match(config, {*item.listnames(), text})
+        return " not " in f" {words} " or words_match(config, {*item.listnames(), *texts_of(item.path)})
     return not words or words_match(config, {*KeywordMatcher.from_item(item)._names} - {""})
+
+
+def texts_of(script: Path) -> Iterator[str]:
+    """The text of a script, and of the modules of this folder that it names, by their names or by how these begin."""
+    text = script.read_text(encoding="utf-8")
+    yield text
+    named = set(re.findall(r"\w+", text))
+    begun = tuple(re.findall(r'"(\w+_)\*\.py"', text)) or ("*",)
+    for module in CASES.glob("*.py"):
+        if module.stem in named - SHARED or module.stem.startswith(begun):
+            yield module.read_text(encoding="utf-8")
 
 
 def wanted_of(script: Script, again: bool) -> Any:

@@ -1,13 +1,11 @@
 """Trials of folders that somebody has touched by hand, and of names: no command writes an answer over a file of the
 folder, and what is wrong is told where it stands."""
-import contextlib
-import os
 import shutil
 from collections.abc import Iterator
 from pathlib import Path
 
 from harness import Said
-from offices import FILE, FIRST, must_do, new_office, text_of, told, unchanged
+from offices import FILE, FIRST, inside, must_do, new_office, text_of, told, unchanged
 
 ROW = "do,2025-04-01,101,102,transfer,1,2,general,{}\n"
 DAY = "2025-04-01"
@@ -20,17 +18,6 @@ STRANGE_NAMES = {
 }  # fmt: skip
 Trial = tuple[str, object]
 Words = list[object]
-
-
-@contextlib.contextmanager
-def inside(work: Path) -> Iterator[None]:
-    """The block works in this folder."""
-    before = Path.cwd()
-    os.chdir(work)
-    try:
-        yield
-    finally:
-        os.chdir(before)
 
 
 def two_days(work: Path, name: str) -> tuple[Path, list[str]]:

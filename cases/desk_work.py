@@ -83,6 +83,8 @@ def restart_trials(work: Path) -> Iterator[Told]:
     files = ana.send("/hand-in", "/hand-in/look", {"a.csv": b"work,2025-10-06\n"})
     started_anew(ana, work / "second", header="X-User")
     yield "who came in is in", differs(ana.get("/").status, 200)
+    other = ana.post("/change/look", {**form.fields, "holder": "5599", "token": "x"})
+    yield "a form of another time", differs(other.status, 403) or has(other, "holder=5599", "Back to what was typed")
     changed = ana.look("/change/look", {**form.fields, "holder": "5599"})
     yield "a form that was being filled in", has(changed, "5599", "Yes, change it")
     yield "and its yes", has(ana.yes(changed, "/change/make", why="a letter"), "handed in for 2025-09-23")

@@ -16,7 +16,6 @@ from typing import Any, cast
 from harness import TOP, Said
 from reread import FORBIDDEN, Attributes, Page, named
 
-from registry_tools import steps
 from registry_tools.desk import app
 from registry_tools.desk.gate import Served
 from registry_tools.desk.heads import SECRET_HEADER, Proxy
@@ -273,12 +272,8 @@ def bytes_of(office: Path) -> dict[str, bytes | None]:
 def changing(office: Path) -> Iterator[Store]:
     """A folder that somebody else changes in the block."""
     with contextlib.closing(file.opened(office)) as store:
-        try:
-            with store.change():
-                yield store
-        finally:
-            # (signals wait behind the one step of a command, and this process goes on)
-            steps.let_go()
+        with store.change():
+            yield store
 
 
 def name(office: Path, *names: str) -> None:

@@ -562,7 +562,9 @@ def many_trials(path: Path, office: Path, people: list[Login], desk: SocketDesk)
     ]
     for thread in threads:
         thread.start()
-    time.sleep(5)
+    until = time.monotonic() + MOST_SECONDS
+    while len(told) < len(people) and time.monotonic() < until:
+        time.sleep(0.05)
     desk.kill_server()
     for thread in threads:
         thread.join()

@@ -12,6 +12,7 @@ from __future__ import annotations
 import contextlib
 import io
 import os
+import signal
 import subprocess
 import sys
 from collections.abc import Callable, Iterable, Sequence
@@ -27,6 +28,11 @@ PYTHON = TOP / "python"
 sys.path[:0] = [str(folder) for folder in (PYTHON, CASES, TOOLS) if str(folder) not in sys.path]
 # (a checkout may belong to another login than the one that tries it: its programs are run all the same)
 os.environ.setdefault("REGISTRY_PROGRAMS", str(TOP))
+
+if signal.getsignal(signal.SIGINT) == signal.SIG_IGN:
+    # (behind `nohup` and `&` an interrupt is ignored, also by all that is started, and a desk that a trial ends so would
+    # never end: this process goes on ignoring it, and what it starts does not)
+    signal.signal(signal.SIGINT, lambda *_: None)
 
 from listening import empty_parts, keep_parts_apart, listener, place_of, raised  # noqa: E402
 

@@ -4,6 +4,7 @@ from __future__ import annotations
 
 import contextlib
 import hashlib
+import os
 import re
 import sqlite3
 import zlib
@@ -24,6 +25,17 @@ GIVEN_AT = re.compile(rb"[0-9-]{10}T[0-9:]{8}Z")
 OF_ITS_TIME = {"at", "before", "line"}
 # What the last look saw: no answer rests on it.
 NO_STATE = "looked"
+
+
+@contextlib.contextmanager
+def inside(work: Path) -> Iterator[None]:
+    """The block works in this folder."""
+    before = Path.cwd()
+    os.chdir(work)
+    try:
+        yield
+    finally:
+        os.chdir(before)
 
 
 def told(status: int, has: list[str], *words: object) -> object:

@@ -8,6 +8,8 @@ import ast
 import re
 import subprocess
 import sys
+from collections.abc import Sequence
+from importlib.util import find_spec
 from pathlib import Path
 
 import pytest
@@ -46,19 +48,21 @@ def two_trials() -> Iterator[tuple[str, Trial]]:
 """
 
 
-def ran(name: str, text: str, *words: str) -> tuple[str, list[str]]:
-    """The last line of pytest for a script of this text, and what it says of each trial."""
+def ran(name: str, text: str, *words: str, cache: Sequence[str] = ("-p", "no:cacheprovider")) -> tuple[str, list[str]]:
+    """What pytest says of a script of this text, and what it says of each trial."""
     script = CASES / name
     script.write_text(text)
     try:
         run = subprocess.run(
-            [sys.executable, "-m", "pytest", "-v", "-rs", "-p", "no:cacheprovider", *words, script],
+            [sys.executable, "-m", "pytest", "-v", "-rs", *cache, *words, script],
             capture_output=True, text=True, check=False, cwd=CASES.parent,
         )  # fmt: skip
     finally:
         script.unlink()
-    told = re.findall(rf"cases/{name}::(.*? (?:PASSED|FAILED|SKIPPED))", run.stdout)
-    return run.stdout, told
+    # (a process beside others tells the outcome first)
+    outcome = "(PASSED|FAILED|SKIPPED)"
+    told = re.findall(rf"(?:{outcome} )?cases/{name}::(.*?)(?: {outcome}|\s*$)", run.stdout, re.MULTILINE)
+    return run.stdout, [f"{own} {first or last}" for first, own, last in told if first or last]
 
 
 @pytest.fixture
@@ -101,8 +105,43 @@ def test_words_choose_trials(name: str) -> None:
     assert ran(name, made(), "-k", "not close and not one")[1] == ["two PASSED"]
 
 
+def test_words_choose_trials_of_a_module(name: str) -> None:
+    """A script may have its trials in modules beside it: their names are known before they are made, too."""
+    module = CASES / f"{name.replace('-', '_')}_parts.py"
+    module.write_text(HEAD.partition("def left")[0] + TWO.format(two="lambda: None"))
+    try:
+        tail = TAIL.replace("    trials.add_all(one_trials())\n", "")
+        script = f"{HEAD}from {module.stem} import two_trials\n{tail}"
+        assert ran(name, script, "-k", "close")[1] == ["three close PASSED"]
+    finally:
+        module.unlink()
+
+
 def test_first_failure_ends_the_run(name: str) -> None:
     assert ran(name, made(one="'wrong'"), "-x")[1] == ["one FAILED"]
+
+
+def test_what_is_started_can_be_interrupted() -> None:
+    """Also where the trials ignore it, as behind `nohup ./check &`."""
+    is_ignored = "import signal; print(signal.getsignal(signal.SIGINT) == signal.SIG_IGN)"
+    code = f"import harness, subprocess, sys; subprocess.run([sys.executable, '-c', {is_ignored!r}])\n{is_ignored}"
+    said = subprocess.run(
+        ["sh", "-c", f"trap '' INT; exec {sys.executable} -c \"$0\"", code], cwd=CASES, capture_output=True, text=True,
+        check=False,
+    )  # fmt: skip
+    assert (said.stdout, said.stderr) == ("False\nFalse\n", "")
+
+
+def test_what_failed_last_is_tried_alone(name: str, tmp_path: Path) -> None:
+    cache = ("-o", f"cache_dir={tmp_path}")
+    assert ran(name, made(two="lambda: 1 / 0"), cache=cache)[1] == ["one PASSED", "two FAILED", "three close PASSED"]
+    assert ran(name, made(), "--lf", cache=cache)[1] == ["two PASSED"]
+
+
+@pytest.mark.skipif(find_spec("xdist") is None, reason="pytest-xdist is not installed")
+def test_processors_share_the_trials(name: str) -> None:
+    said, told = ran(name, made(two="left"), "-n", "2")
+    assert sorted(told) == ["one PASSED", "three close PASSED", "two SKIPPED"] and "2 passed, 1 skipped" in said
 
 
 # Planted: each must fail.
@@ -155,35 +194,56 @@ def answers(function: ast.FunctionDef) -> bool:
     return is_said or bool(adds) or asserts(function)
 
 
-@pytest.mark.parametrize("file", [name for name in TREES if name.startswith("test_")])
-def test_each_function_of_trials_asserts(file: str) -> None:
-    tests = [each for each in functions_of(TREES[file]) if each.name.startswith("test_")]
-    assert tests, f"{file} has no function that pytest collects"
-    assert [each.name for each in tests if not asserts(each)] == []
+def silent_tests(tree: ast.Module) -> list[str]:
+    """The functions that pytest collects, and that assert nothing."""
+    return [each.name for each in functions_of(tree) if each.name.startswith("test_") and not asserts(each)]
 
 
-@pytest.mark.parametrize("file", [*TREES])
-def test_each_trial_of_a_script_says_what_is_wrong(file: str) -> None:
-    """A trial that forgets its `return` would always pass."""
-    trials = [each for each in functions_of(TREES[file]) if each.name.endswith(("_fault", "_trial"))]
-    silent = [each.name for each in trials if not answers(each) and not is_generator(each)]
-    assert silent == []
+def silent_trials(tree: ast.Module) -> list[str]:
+    """The functions of a script that have a trial in their name, and say nothing: each would always pass."""
+    trials = [each for each in functions_of(tree) if each.name.endswith(("_fault", "_trial"))]
+    return [each.name for each in trials if not answers(each) and not is_generator(each)]
 
 
 def is_generator(function: ast.FunctionDef) -> bool:
     return any(isinstance(each, ast.Yield | ast.YieldFrom) for each in ast.walk(function))
 
 
-def test_no_function_of_trials_is_left_uncollected() -> None:
-    """A function `test_..` stands in a file `test_..py`; what gives trials is used by something."""
-    elsewhere = [
-        f"{file}: {each.name}" for file, tree in TREES.items() if not file.startswith("test_")
-        for each in functions_of(tree) if each.name.startswith("test_")
-    ]  # fmt: skip
-    used = {each.id for tree in TREES.values() for each in ast.walk(tree) if isinstance(each, ast.Name)}
-    used |= {each.attr for tree in TREES.values() for each in ast.walk(tree) if isinstance(each, ast.Attribute)}
-    unused = [
-        f"{file}: {each.name}" for file, tree in TREES.items() for each in functions_of(tree)
-        if re.search(r"^(?!test_).*(_trials?|_fault)$|^trials_", each.name) and each.name not in used
-    ]  # fmt: skip
-    assert elsewhere + unused == []
+def uncollected(trees: dict[str, ast.Module]) -> list[str]:
+    """Functions `test_..` outside of files `test_..py`, such files without one, and trials that nothing uses."""
+    own = [(file, each.name) for file, tree in trees.items() for each in functions_of(tree)]
+    found = [f"{file}: {name}" for file, name in own if name.startswith("test_") and not file.startswith("test_")]
+    found += [file for file in trees if file.startswith("test_") and file not in {
+        each for each, name in own if name.startswith("test_")}]  # fmt: skip
+    used = {each.id for tree in trees.values() for each in ast.walk(tree) if isinstance(each, ast.Name)}
+    used |= {each.attr for tree in trees.values() for each in ast.walk(tree) if isinstance(each, ast.Attribute)}
+    trial = re.compile(r"^(?!test_).*(_trials?|_fault)$|^trials_")
+    return found + [f"{file}: {name}" for file, name in own if trial.search(name) and name not in used]
+
+
+@pytest.mark.parametrize("file", [*TREES])
+def test_each_trial_says_what_is_wrong(file: str) -> None:
+    assert silent_trials(TREES[file]) + (silent_tests(TREES[file]) if file.startswith("test_") else []) == []
+
+
+def test_each_trial_is_collected() -> None:
+    assert uncollected(TREES) == []
+
+
+@pytest.mark.parametrize(
+    "file, text, told",
+    [
+        ("test_x.py", "def test_it(): made()", ["test_it"]),
+        ("test_x.py", "def test_it():\n    assert made()", []),
+        ("run-x", "def one_trial(): made()\nadd(one_trial)", ["one_trial"]),
+        ("run-x", "def one_trial(): return made()\nadd(one_trial)", []),
+        ("run-x", "def test_it():\n    assert made()", ["run-x: test_it"]),
+        ("test_x.py", "def it():\n    assert made()", ["test_x.py"]),
+        ("run-x", "def one_trials():\n    yield 'a', made()", ["run-x: one_trials"]),
+        ("run-x", "def one_trials():\n    yield 'a', made()\nadd(one_trials())", []),
+    ],
+)
+def test_planted_trial_that_shows_nothing_is_told(file: str, text: str, told: list[str]) -> None:
+    """One that asserts nothing, one that says nothing, and those that nobody collects."""
+    tree = ast.parse(text)
+    assert silent_tests(tree) + silent_trials(tree) + uncollected({file: tree}) == told

@@ -1,4 +1,4 @@
-"""Makes what `pip install .` installs: the package of python/, with its commands. pip calls this by pyproject.toml.
+"""Makes what `pip install .` installs: the packages of python/, with their commands. pip calls this by pyproject.toml.
 
 It needs the standard library alone: so an installation asks no network for another tool that builds packages.
 """
@@ -16,7 +16,8 @@ import zipfile
 from pathlib import Path
 
 TOP = Path(__file__).resolve().parent.parent
-# What a source package has, beside the package itself.
+PACKAGES = ("registry_office", "registry_tools")
+# What a source package has, beside the packages themselves.
 SOURCES = ("pyproject.toml", "packaging/TOOLS.md", "tools/build_package.py")
 # A zip has no time before this one.
 EARLIEST = (1980, 1, 1, 0, 0, 0)
@@ -55,9 +56,9 @@ def time_of_files() -> tuple[int, int, int, int, int, int]:
 
 
 def files() -> list[Path]:
-    """The files of the package, also those that are no Python."""
-    package = TOP / "python" / "registry_tools"
-    return sorted(path for path in package.rglob("*") if path.is_file() and path.suffix != ".pyc")
+    """The files of the packages, also those that are no Python."""
+    own = (path for name in PACKAGES for path in (TOP / "python" / name).rglob("*"))
+    return sorted(path for path in own if path.is_file() and path.suffix != ".pyc")
 
 
 def metadata() -> str:

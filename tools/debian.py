@@ -122,7 +122,8 @@ class Tree:
             path = self.folder / f"usr/bin/{name}"
             # (Debian's own Python, and no other one of the PATH)
             path.write_text(re.sub(r"^#!.*", "#!/usr/bin/python3 -IB", path.read_text(), count=1))
-        self.put("share/registry/registry_tools", "usr/share/registry/registry_tools")
+        for name in ("registry_tools", "registry_office"):
+            self.put(f"share/registry/{name}", f"usr/share/registry/{name}")
         self.put("share/registry/registry.source", "usr/share/registry/registry.source")
         for shell in ("bash-completion", "zsh"):
             self.put(f"share/{shell}", f"usr/share/{shell}")
@@ -134,7 +135,7 @@ class Tree:
         for path in sorted(self.archive.glob("share/doc/registry/*")):
             if path.name != "CHANGELOG.md":
                 self.put(f"share/doc/registry/{path.name}", f"usr/share/doc/registry/{path.name}")
-        self.write("DEBIAN/prerm", PRERM.format(name=self.own.name, folder="usr/share/registry/registry_tools"))
+        self.write("DEBIAN/prerm", PRERM.format(name=self.own.name, folder="usr/share/registry"))
         self.put("MANIFEST", "usr/share/doc/registry/MANIFEST")
         self.write("usr/share/doc/registry/README.Debian", README)
         overrides = "registry: unstripped-binary-or-object [usr/bin/registry]\n"

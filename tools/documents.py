@@ -9,7 +9,7 @@ from pathlib import Path
 TOP = Path(__file__).resolve().parent.parent
 # What an installation has, by its place there.
 DOCUMENTS = {Path(name).name: name for name in (
-    "CHANGELOG.md", "docs/RULES.md", "docs/FORMATS.md", "docs/THEOREMS.md", "docs/TRUST.md", "docs/GLOSSARY.md",
+    "CHANGELOG.md", "docs/RULES.md", "docs/FORMATS.md", "docs/THEOREMS.md", "docs/TRUST.md", "docs/GLOSSARY.md", "docs/OFFICE.md",
 )}  # fmt: skip
 PICTURES = {"page-of-an-account.png": "docs/page-of-an-account.png", "database.svg": "docs/database.svg"}
 # What is read of examples/.

@@ -5,7 +5,7 @@ from collections.abc import Iterator
 from pathlib import Path
 
 import package  # noqa: F401
-from registry_tools.man import as_it_stands, as_roff, head, see_also
+from registry_tools.cli.man import as_it_stands, as_roff, head, see_also
 
 RETURNED = r"struct registry_answer|uint32_t|size_t|const char \*"
 PROTOTYPE = re.compile(rf"^(?:{RETURNED})\s*registry_\w+\([^;]*\);", re.MULTILINE)

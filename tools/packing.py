@@ -24,7 +24,8 @@ import jars
 import manual
 import package  # noqa: F401
 import versions
-from registry_tools import completion, man, streams
+from registry_tools import streams
+from registry_tools.cli import completion, man
 
 sys.path.insert(0, str(Path(__file__).resolve().parent.parent / "packaging"))
 import build_registry  # noqa: E402

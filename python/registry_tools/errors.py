@@ -1,4 +1,6 @@
-"""What goes wrong: each ends a command with a line on standard error and an exit status."""
+"""What goes wrong: each fault ends a command with a line on standard error and an exit status. `tools/tables` makes the
+table of all of them in docs/FORMATS.md of what the classes say."""
+import datetime
 from collections.abc import Collection, Iterable, Sequence
 from pathlib import Path
 from typing import Any
@@ -12,39 +14,64 @@ NOT_WRITTEN = 5
 MOST_SHOWN = 160
 
 
-class WordsFault(Exception):
-    """The words of the command do not fit together, or do not fit the files."""
+class Fault(Exception):
+    """Why nothing was done: a sentence, as a text."""
 
+    # The exit status; the word by which programs know what kind of fault it is; and what is done about such a one.
     status = WORDS
-    # By this word programs know what kind of fault it is.
-    code = "words"
+    code = remedy = ""
+    # What is done about this one, at the end of its sentence, if that is known.
+    way = ""
+    # The day behind a corrected one that can't be closed so, if it is a fault of that day.
+    behind: datetime.date | None = None
+
+    def parts(self) -> "Sequence[Fault]":
+        """The faults that it tells: itself, or several that were found together."""
+        return (self,)
+
+    def without_way(self) -> str:
+        """What is wrong, without the way out: who shows it otherwise has another one."""
+        return str(self)
+
+
+class WordsFault(Fault):
+    """The words of the command do not fit together, or do not fit the files: `why`."""
+
+    code, remedy = "words", "give the words that the sentence names"
+
+    def __init__(self, why: str, way: str = "") -> None:
+        super().__init__(f"{why}: {way}" if way else why)
+        self.why, self.way = why, way
+
+    def without_way(self) -> str:
+        """The same without the way out."""
+        return self.why
 
 
 class LateFault(WordsFault):
     """Somebody else changed the folder first: what was asked for may still be wanted."""
 
-    code = "late"
+    code, remedy = "late", "look at the folder once more, and ask again"
 
 
 class RightsFault(WordsFault):
-    """Who asks may not do it: why, and what is said behind it of this command."""
+    """Who asks may not do it: `why` says so."""
 
-    code = "rights"
+    code, remedy = "rights", "let somebody do it whom the sentence names"
 
     def __init__(self, why: str, end: str = "") -> None:
         super().__init__(f"{why}{end}")
         self.why = why
 
 
-class FileFault(Exception):
-    """A file is not what it must be: where, the name of the field or row, what was found there, and what was expected.
-    If the whole file is meant, `found` says all."""
+class FileFault(Fault):
+    """A file is not what it must be: `path`, `line`, `field`, what was `found` there, and what was `expected`. If the
+    whole file is meant, `found` says all."""
 
     status = FILE
-    code = "file"
-    # Of something that was handed in, its place; and the way out, if there is one.
+    code, remedy = "file", "put there what is expected"
+    # Of something that was handed in, its place.
     place: int | None = None
-    way = ""
 
     def __init__(self, path: str | Path, line: int, field: str, found: object, expected: str) -> None:
         super().__init__(path, line, field, found, expected)
@@ -58,7 +85,7 @@ class FileFault(Exception):
         return (self,)
 
     def without_way(self) -> str:
-        """What is wrong, without the way out: who shows it otherwise has another one."""
+        """The same without the way out."""
         path = voice.path(self.path)
         place = f"{path}:{self.line}" if self.line else path
         if not self.expected:
@@ -70,13 +97,13 @@ class FileFault(Exception):
 class UnwrittenFault(FileFault):
     """A file that a command writes cannot be written: nothing is wrong with what it reads."""
 
-    code = "unwritten"
+    code, remedy = "unwritten", "make room, or name another place"
 
 
 class RowFault(FileFault):
-    """A row has a fault: its number and the cause, as the program says it."""
+    """A row of a text has a fault: its `number` and the `cause`, [as the program says it](FORMATS.md#faults)."""
 
-    code = "row"
+    code, remedy = "row", "mend the row"
 
     def __init__(self, number: int, cause: str, *parts: Any) -> None:
         super().__init__(*parts)

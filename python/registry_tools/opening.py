@@ -24,7 +24,7 @@ guarded: dict[str, None] = {}
 class LinkFault(FileFault):
     """Something in a folder of days is a link, or no plain file."""
 
-    code = "link"
+    code, remedy = "link", "take it away, once it is known who put it there"
 
     def __init__(self, path: str | Path, found: str = "a link") -> None:
         super().__init__(path, 0, "", found, "a file or folder of its own: look who put it there, and take it away")
@@ -126,18 +126,3 @@ def listed(path: str | Path) -> list[str]:
         return sorted(os.listdir(folder))
     finally:
         os.close(folder)
-
-
-def rename(old: str | Path, new: str | Path) -> None:
-    """Gives a file or folder another name, in place of the file that has it. Raises OSError or LinkFault."""
-    with at(old) as (source, old_name), at(new) as (place, new_name):
-        os.replace(old_name, new_name, src_dir_fd=source, dst_dir_fd=place)
-
-
-def remove(path: str | Path) -> None:
-    """Takes a file away, if it is there. Raises OSError or LinkFault."""
-    with at(path) as (folder, name):
-        if folder is not None and is_link(folder, name):
-            raise LinkFault(path)
-        with contextlib.suppress(FileNotFoundError):
-            os.unlink(name, dir_fd=folder)

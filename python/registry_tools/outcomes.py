@@ -8,7 +8,8 @@ import json
 from dataclasses import asdict, dataclass
 from pathlib import Path
 
-from registry_tools.errors import FOUND, FileFault, LateFault, WordsFault
+from registry_tools import errors
+from registry_tools.errors import FOUND, FileFault, LateFault
 
 
 class Kind(enum.Enum):
@@ -70,16 +71,17 @@ class Telling:
 telling = Telling()
 
 
-def keep(fault: WordsFault | FileFault) -> None:
+def keep(fault: errors.Fault) -> None:
     """Keeps what ended the command."""
     telling.is_late = isinstance(fault, LateFault)
-    if isinstance(fault, FileFault):
-        telling.faults += [
-            Fault(fault.code, str(own.path), own.line, own.field, str(own.found), str(own.expected), own.way)
-            for own in fault.parts()
-        ]
-    else:
-        telling.faults.append(Fault(fault.code, "", 0, "", str(fault), "", ""))
+    telling.faults += map(data_of, fault.parts())
+
+
+def data_of(own: errors.Fault) -> Fault:
+    """A fault as data."""
+    if isinstance(own, FileFault):
+        return Fault(own.code, str(own.path), own.line, own.field, str(own.found), str(own.expected), own.way)
+    return Fault(own.code, "", 0, "", own.without_way(), "", own.way)
 
 
 def asked_for() -> None:

@@ -1,16 +1,13 @@
-"""Shows rows to people or programs: a text table on a terminal, csv, or JSON. docs/FORMATS.md states the columns of
-each command."""
-import argparse
+"""Rows as people or programs are shown them: as a text table, csv, or JSON. docs/FORMATS.md states the columns of each
+command."""
 import csv
 import io
 import json
 import re
-from collections.abc import Callable, Iterable, Sequence, Set
+from collections.abc import Iterable, Sequence, Set
 
 from registry_tools.errors import FileFault
-from registry_tools.options import add_to
-from registry_tools.output import write_answer
-from registry_tools.tables import COLUMNS, Columns
+from registry_tools.tables import COLUMNS
 from registry_tools.texts import in_words
 
 Cell = str | int | None
@@ -18,24 +15,6 @@ Cell = str | int | None
 FAULT = COLUMNS["audit"].names
 # How a cell of a csv begins that a spreadsheet takes for a formula, if it is no number; and what makes it text.
 FORMULA, NUMBER, QUOTE = re.compile("'*[=+\\-@\t]"), re.compile("-[0-9]+"), "'"
-
-
-def add_forms(parser: argparse.ArgumentParser) -> None:
-    """The options by which a command writes for programs."""
-    forms = parser.add_mutually_exclusive_group()
-    forms.add_argument("--csv", action="store_true", help="write csv with a header row")
-    forms.add_argument("--json", action="store_true", help="write JSON: a list of objects whose names are the columns")
-
-
-def add_words(parser: argparse.ArgumentParser) -> None:
-    """Tells a parser the words of the command."""
-    add_forms(parser)
-    add_to(parser)
-
-
-def is_for_programs(said: argparse.Namespace) -> bool:
-    """Whether the words ask for csv or JSON."""
-    return bool(said.csv or said.json)
 
 
 def as_text(cell: str) -> str:
@@ -61,23 +40,6 @@ def as_json(columns: Sequence[str], rows: Sequence[Sequence[Cell]]) -> str:
     """Rows as a JSON list of objects."""
     objects = [dict(zip(columns, row)) for row in rows]
     return json.dumps(objects, indent=1, ensure_ascii=False) + "\n"
-
-
-def for_programs(said: argparse.Namespace, columns: Sequence[str], rows: Sequence[Sequence[Cell]]) -> str:
-    """Rows as the words ask for them: as JSON, or else as csv."""
-    return as_json(columns, rows) if said.json else as_csv(columns, rows)
-
-
-def show(said: argparse.Namespace, columns: Columns, rows: Sequence[Sequence[Cell]]) -> None:
-    """Writes rows under their columns."""
-    show_or_tell(said, columns, rows, lambda: as_table(columns.names, rows, columns.numbers))
-
-
-def show_or_tell(
-    said: argparse.Namespace, columns: Columns, rows: Iterable[Sequence[Cell]], text: Callable[[], str]
-) -> None:
-    """Writes rows for programs, or else what people are told."""
-    write_answer(for_programs(said, columns.names, [*rows]) if is_for_programs(said) else text(), said.to)
 
 
 def as_table(columns: Sequence[str], rows: Sequence[Sequence[Cell]], numbers: Set[str]) -> str:

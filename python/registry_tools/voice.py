@@ -37,10 +37,6 @@ class Terminal:
         """A time of the events."""
         return at
 
-    def document(self, name: str, section: str = "") -> str:
-        """A document, or a section of it."""
-        return f"docs/{name}.md{section}"
-
     def either(self, _terminal: str, _desk: str) -> str:
         """What is told otherwise than by the words above: the first one, or the second one at the desk."""
         return _terminal
@@ -92,10 +88,6 @@ class Desk(Terminal):
             return at
         return moment.astimezone().strftime("%Y-%m-%d %H:%M")
 
-    def document(self, name: str, section: str = "") -> str:
-        """The page of a document."""
-        return f"the {name.lower()}"
-
     def either(self, _terminal: str, _desk: str) -> str:
         """What the desk says."""
         return _desk
@@ -143,11 +135,6 @@ def path(own: str | Path) -> str:
 def time(at: str) -> str:
     """A time of the events of a folder."""
     return _voice.get().time(at)
-
-
-def document(name: str, section: str = "") -> str:
-    """A document, or a section of it."""
-    return _voice.get().document(name, section)
 
 
 def either(terminal: str, desk: str) -> str:

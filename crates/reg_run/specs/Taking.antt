@@ -6,7 +6,7 @@ use Rattle.reg_deques.specs.declared.views.TicketView.{TicketView}
 use Rattle.reg_deques.specs.Passes.{owned}
 use Rattle.reg_deques.specs.Steps.{TakesOwn}
 use Rattle.reg_deques.specs.Tickets.{empty_ticket_view}
-use Rattle.reg_deques.specs.Views.{view, table_of}
+use Rattle.reg_deques.specs.Views.{view, table_of, with_put}
 use Rattle.reg_deques.specs.Yards.{views, worker_of, StealsAny}
 use Rattle.reg_run.specs.declared.ran.Ran.{Ran}
 use Rattle.reg_run.specs.declared.taker.Taker.{Taker}
@@ -19,6 +19,10 @@ pub record WorkerView : Type 0 where
 
 abbrev pub known_by : {T S : Type 0} {t : _} {s : _} → Taker T S t s → WorkerView
 known_by taker = record { worker = worker_of taker.pass; own = owned taker.owner; others = views taker.pass }
+
+-- the same worker, once it put tasks with these numbers into its own deque
+abbrev pub knows_put : List ℕ → WorkerView → WorkerView
+knows_put numbers k = record { worker = k.worker; own = with_put numbers k.own; others = k.others }
 
 -- the owner of a deque put tasks, and took none
 abbrev pub HasOnlyPut : DequeView → Type 0

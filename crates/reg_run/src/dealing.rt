@@ -66,16 +66,18 @@ fn put<T: Numbered + Drop>(owner: &mut Owner<T>, task: T) -> Result<(), NoMemory
 
 /// Workers that have not begun, and the seat that is left.
 #[derive(Drop)]
-pub(crate) struct ReadyWorkers<T: Numbered, S: Sharing> {
-    pub(crate) seat: Seat,
-    pub(crate) workers: Vec<ReadyWorker<T, S>>,
+pub struct ReadyWorkers<T: Numbered, S: Sharing> {
+    /// The seat that is left, whose stake is that of no worker.
+    pub seat: Seat,
+    /// The workers, from worker 0 on.
+    pub workers: Vec<ReadyWorker<T, S>>,
 }
 
 /// A worker for each deque, with its pass at the others and a seat of its own.
 ///
 /// # Errors
 /// `NoMemory` if memory ran out.
-pub(crate) fn make_workers<T: Numbered + Drop, S: Sharing>(
+pub fn make_workers<T: Numbered + Drop, S: Sharing>(
     alloc: Global,
     table: &ClaimTable,
     seat: Seat,
@@ -93,6 +95,8 @@ pub(crate) fn make_workers<T: Numbered + Drop, S: Sharing>(
     ensures table { IfOk result (λ made. seat_table made.seat ≡ S.table) }
     ensures stake { IfOk result (λ made. (known made.seat).stake + vec_len passes ≡ 16) }
     ensures fresh { IfOk result (λ made. (known made.seat).finished ≡ []) }
+    ensures seen { IfOk result (λ made. (known made.seat).seen ≡ (known seat).seen) }
+    ensures each { IfOk result (λ made. vec_len made.workers ≡ vec_len passes) }
     ensures numbers { IfOk result
         (λ made. map (λ w. worker_of w.taker.pass) made.workers.items ≡ map worker_of passes.items) }
     ensures owned { IfOk result

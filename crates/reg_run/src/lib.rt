@@ -39,6 +39,9 @@
 //! What is so of every run, whatever the threads did, stands in `specs/Running.antt` (`WereRun`): each task was put
 //! into one deque, once; each worker took just the tasks that it ran; each task was run once, by the worker that its
 //! answer names; and what is promised of the answers holds.
+//!
+//! Whoever has tasks that appear while others are run has a loop of its own over the same parts: workers that are ready
+//! ([`make_workers`]), each with a deque and a pass at the others ([`Taker`]), and a seat. `reg_work` does so.
 #![tactic(auto)]
 
 mod dealing;
@@ -51,7 +54,10 @@ mod tally;
 mod threads;
 mod worker;
 
+pub use dealing::{ReadyWorkers, make_workers};
 pub use doing::Do;
 pub use outcome::Outcome;
 pub use ran::Ran;
 pub use running::run;
+pub use taker::{Sharing, Taken, Taker};
+pub use worker::ReadyWorker;

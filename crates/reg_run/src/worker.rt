@@ -17,9 +17,11 @@ use std::marker::PhantomData;
 
 /// A worker that has not begun: what it takes tasks by, and its seat.
 #[derive(Drop)]
-pub(crate) struct ReadyWorker<T: Numbered, S: Sharing> {
-    pub(crate) taker: Taker<T, S>,
-    pub(crate) seat: Seat,
+pub struct ReadyWorker<T: Numbered, S: Sharing> {
+    /// Its own deque, and its pass at the others.
+    pub taker: Taker<T, S>,
+    /// Its seat at the table.
+    pub seat: Seat,
     pub(crate) ghost table_is: { seat_table seat ≡ S.table },
     pub(crate) ghost one_stake: { (known seat).stake ≡ 1 },
     pub(crate) ghost fresh: { (known seat).finished ≡ [] },

@@ -1,7 +1,6 @@
 -- Counting places in shifts.
-use Rattle.std.proofs.Common.{arith, add-one, ◌≡◌, ℕ, ◌+◌, List, [], ◌∷◌, ◌++◌, map, length, length-append}
-use Rattle.std.proofs.Common.{append-nil, append_assoc, refl, ap, sym, ◌∙◌}
-use Rattle.std.proofs.lemmas.List.{map-append, length-map, nil_from_length}
+use Rattle.std.proofs.Common.{arith, add-one, ◌≡◌, ℕ, ◌+◌, List, [], ◌∷◌, ◌++◌, map, refl, ap, sym, ◌∙◌}
+use Rattle.std.proofs.lemmas.List.{map-append}
 use Rattle.reg_facts.specs.Counting.{times}
 use Rattle.reg_facts.proofs.lemmas.Times.{times-append}
 use Rattle.reg_facts.proofs.lemmas.Totals.{total-append}
@@ -28,25 +27,6 @@ one-numbered f all before x n m items numbered is next =
     ∙ ap (λ k. first_numbers n ++ k ∷ []) is
     ∙ sym (numbers-next n)
     ∙ sym (ap first_numbers next)
-
--- an item that was moved out of one list is behind the others of another
-pub one-moved : {X Y : Type 0} (f : X → Y) (all before : List X) (x : X) (y : Y) (rest left whole : List Y)
-    → all ≡ before ++ x ∷ [] → f x ≡ y → rest ≡ y ∷ left → map f before ++ rest ≡ whole → map f all ++ left ≡ whole
-one-moved f all before x y rest left whole items is moved same =
-    ap (λ xs. map f xs ++ left) items
-    ∙ ap (λ ys. ys ++ left) (map-append f before (x ∷ []))
-    ∙ append_assoc (map f before) (f x ∷ []) left
-    ∙ ap (λ z. map f before ++ z ∷ left) is
-    ∙ ap (λ ys. map f before ++ ys) (sym moved)
-    ∙ same
-
--- if as many were moved as there are, none is left
-pub all-moved : {X Y : Type 0} (f : X → Y) (all : List X) (rest whole : List Y) → map f all ++ rest ≡ whole
-    → length all ≡ length whole → map f all ≡ whole
-all-moved f all rest whole same many =
-    let none : length rest ≡ 0 =
-    omega (arith, ap length same, length-append (map f all) rest, length-map all f, many) in
-    sym (append-nil (map f all)) ∙ ap (λ ys. map f all ++ ys) (sym (nil_from_length rest none)) ∙ same
 
 -- how often a number stands in the images of two lists, one behind the other
 pub times-mapped : {X : Type 0} (f : X → ℕ) (p : ℕ) (all before more : List X) → all ≡ before ++ more

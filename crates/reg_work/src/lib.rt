@@ -1,5 +1,7 @@
-//! Workers: the instructions of a day, run in threads: by workers that take them as soon as what they wait for is
-//! there, or level by level.
+//! Workers of instructions: those of a day, run in threads: by workers that take them as soon as what they wait for is
+//! there, or level by level. No command uses them: the program's workers are those of `reg_run`, with regions as their
+//! tasks. Here a task appears while others are run, so the loop, docks and threads are of this crate; how a worker gets
+//! its deque and its seat, and how it puts, takes and steals tasks, is `reg_run`'s.
 //!
 //! A use of it, proved in `example_uses/src/work.rt`:
 //!

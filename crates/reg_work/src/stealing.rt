@@ -2,6 +2,7 @@
 
 ghost use Rattle.std.specs.Prelude.{◌≡◌, ℕ, ◌+◌, ◌≤◌, ◌<◌, [], true, length, map, vec_len, All, IfOk, IfErr, IfSome};
 ghost use Rattle.std.specs.Prelude.{MatchResult};
+ghost use Rattle.std.specs.List.{range_with_len};
 ghost use Rattle.reg_book.specs.Day.{day_of, settled_day};
 ghost use Rattle.reg_book.specs.Settled.{IsOfBook};
 ghost use Rattle.reg_claim.specs.Views.{fresh};
@@ -9,7 +10,7 @@ ghost use Rattle.reg_claim.specs.Seats.{known, seat_table, table_id, places};
 ghost use Rattle.reg_facts.specs.Counting.{times, once};
 ghost use Rattle.reg_tasks.specs.Gathering.{places_of};
 ghost use Rattle.reg_tasks.specs.Names.{IsNamed};
-ghost use Rattle.reg_deques.specs.Yards.{deques, deques_of_pass};
+ghost use Rattle.reg_deques.specs.Yards.{deques, deques_of_owners, deques_of_pass, worker_of, IsBlank};
 ghost use Rattle.reg_base.specs.Workers.{may_work};
 ghost use Rattle.reg_work.specs.Faults.{IsWorkFault};
 ghost use Rattle.reg_work.specs.Shifts.{AreShifts};
@@ -17,15 +18,15 @@ ghost use Rattle.reg_work.specs.Shortages.{IsShortage};
 
 use crate::alone::settle_alone;
 use crate::fault::{Shortage, WorkFault};
-use crate::shared::{Shared, SharedIds};
+use crate::shared::Shared;
 use crate::shift::Shift;
 use crate::tally::{Work, count_up, join_parts};
 use crate::threads::run_in_threads;
 use crate::waves::is_allowed;
-use crate::worker::Worker;
 use reg_base::{Batch, Rules};
 use reg_book::{Book, Settled};
 use reg_claim::{ClaimTable, Seat};
+use reg_run::{ReadyWorkers, Sharing, make_workers};
 use reg_tasks::{Context, Gate, Lack, Naming, Task};
 use reg_yard::{Docks, Owner, Pass, Yard};
 use std::alloc::Global;
@@ -34,44 +35,11 @@ use std::sync::Wait;
 use std::sync::atomic::AtomicU32;
 use std::thread::Threads;
 
-// The workers, each with a seat of its own.
-fn make_workers<N: Naming, I: SharedIds>(
-    alloc: Global,
-    table: &ClaimTable,
-    seat: Seat,
-    owners: Vec<Owner<Task<N>>>,
-    passes: Vec<Pass<Task<N>>>,
-) -> Result<(Seat, Vec<Worker<Task<N>, N, I>>), Lack>
-    requires table { (table_id table.now ≡ I.table) × (seat_table seat ≡ I.table) }
-    requires fresh { ((known seat).stake ≡ 16) × ((known seat).finished ≡ []) × ((known seat).seen ≡ 0) }
-    requires few { (vec_len passes ≤ 8) × (vec_len owners ≡ vec_len passes) }
-    requires deques { All (λ p. deques_of_pass p ≡ I.deques) passes.items }
-    ensures table { IfOk result (λ r. seat_table r.0 ≡ I.table) }
-    ensures stake { IfOk result (λ r. (known r.0).stake + vec_len r.1 ≡ 16) }
-    ensures fresh { IfOk result (λ r. ((known r.0).finished ≡ []) × ((known r.0).seen ≡ 0)) }
-    ensures each { IfOk result (λ r. vec_len r.1 ≡ vec_len passes) }
-    ensures passes { IfOk result (λ r. map (λ p. p.pass) r.1.items ≡ passes.items) }
-    ensures owners { IfOk result (λ r. map (λ p. p.owner) r.1.items ≡ owners.items) }
-{
-    let mut rest = seat;
-    let mut unstarted = Vec::with_capacity(alloc, passes.len())?;
-    let mut owners = owners.into_iter();
-    for pass in passes {
-        let Some(owner) = owners.next() else {
-            return Err(Lack::Foreign);
-        };
-        let (kept, own) = table.split(rest);
-        rest = kept;
-        unstarted.push(Worker::new(alloc, owner, pass, own))?;
-    }
-    Ok((rest, unstarted))
-}
-
 // Gives each worker a seat at the table, lets the workers work, and counts up what they did.
 fn run_workers<
     'c,
     N: Naming + Send + Sync,
-    I: SharedIds + Send + Sync,
+    S: Sharing + Send + Sync,
     R: Threads + Wait + Sync,
     G: Gate,
 >(
@@ -86,21 +54,26 @@ fn run_workers<
     passes: Vec<Pass<Task<N>>>,
     gate: &G,
 ) -> Result<Work<N>, Shortage>
-    requires count { length context.now.batch.now.instructions ≡ I.count }
-    requires table { (table_id table ≡ I.table) × (places table ≡ I.count) × (seat_table seat ≡ I.table) }
+    requires count { length context.now.batch.now.instructions ≡ S.count }
+    requires table { (table_id table ≡ S.table) × (places table ≡ S.count) × (seat_table seat ≡ S.table) }
     requires fresh { known seat ≡ fresh }
-    requires yard { deques yard ≡ I.deques }
-    requires passes { All (λ p. deques_of_pass p ≡ I.deques) passes.items }
+    requires yard { deques yard ≡ S.deques }
+    requires owners { deques_of_owners owners.items ≡ S.deques }
+    requires passes { All (λ p. deques_of_pass p ≡ S.deques) passes.items }
+    requires blank { All IsBlank passes.items }
+    requires workers { map worker_of passes.items ≡ range_with_len 0 (vec_len passes) }
     requires some { 0 < vec_len passes }
     requires few { (vec_len passes ≤ 8) × (vec_len owners ≡ vec_len passes) }
-    ensures shifts { IfOk result (λ w. AreShifts (vec_len passes) I.count w.shifts.items) }
-    ensures each_done { IfOk result (λ w. (p : ℕ) → times p (places_of w.done.items) ≡ once I.count p) }
+    ensures shifts { IfOk result (λ w. AreShifts (vec_len passes) S.count w.shifts.items) }
+    ensures each_done { IfOk result (λ w. (p : ℕ) → times p (places_of w.done.items) ≡ once S.count p) }
 {
-    let (rest, mut unstarted): (Seat, Vec<Worker<Task<N>, N, I>>) = make_workers(
-        alloc, &table, seat, owners, passes,
-    )?;
+    let ready: ReadyWorkers<Task<N>, S> = make_workers(alloc, &table, seat, owners, passes)?;
+    let ReadyWorkers {
+        seat: rest,
+        workers: mut unstarted,
+    } = ready;
     let last = unstarted.pop().unwrap();
-    let shared: Shared<'_, Task<N>, N, I> = Shared {
+    let shared: Shared<'_, Task<N>, N, S> = Shared {
         context,
         docks,
         table,

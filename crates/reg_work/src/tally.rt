@@ -9,12 +9,12 @@ ghost use Rattle.reg_work.specs.Shifts.{AreShifts, workers_of, times_in};
 ghost use Rattle.reg_work.specs.EndedWorkers.{ended_numbers, all_done, all_closing};
 ghost use Rattle.reg_facts.specs.Lists.{first_numbers};
 
-use crate::shared::SharedIds;
 use crate::shift::Shift;
 use crate::work_loop::EndedWorker;
 use crate::worker::Worker;
 use reg_base::NoMemory;
 use reg_claim::{ClaimTable, Seat};
+use reg_run::Sharing;
 use reg_tasks::{Done, Lack, LastParcel, Naming, Ran, Task};
 use std::alloc::Global;
 
@@ -100,21 +100,21 @@ pub(crate) fn join_parts<T: Drop>(alloc: Global, parts: Vec<Vec<T>>) -> Result<V
 /// # Errors
 /// `Memory` if memory ran out. If the workers were told to leave, what was lacking for the one that told them to; if
 /// several did, for the one with the lowest number.
-pub(crate) fn count_up<N: Naming, I: SharedIds>(
+pub(crate) fn count_up<N: Naming, S: Sharing>(
     alloc: Global,
     table: ClaimTable,
     seat: Seat,
-    ended_workers: Vec<EndedWorker<Task<N>, N, I>>,
+    ended_workers: Vec<EndedWorker<Task<N>, N, S>>,
 ) -> Result<Work<N>, Lack>
-    requires table { (table_id table ≡ I.table) × (places table ≡ I.count) × (seat_table seat ≡ I.table) }
+    requires table { (table_id table ≡ S.table) × (places table ≡ S.count) × (seat_table seat ≡ S.table) }
     requires stake { (known seat).stake + vec_len ended_workers ≡ 16 }
     requires fresh { ((known seat).finished ≡ []) × ((known seat).seen ≡ 0) }
     requires some { 0 < vec_len ended_workers }
     requires workers { ended_numbers ended_workers.items ≡ first_numbers (vec_len ended_workers) }
-    ensures shifts { IfOk result (λ w. AreShifts (vec_len ended_workers) I.count w.shifts.items) }
+    ensures shifts { IfOk result (λ w. AreShifts (vec_len ended_workers) S.count w.shifts.items) }
     ensures done { IfOk result (λ w. w.done.items ≡ all_done ended_workers.items) }
     ensures closing { IfOk result (λ w. joined_lists w.closing.items ≡ all_closing ended_workers.items) }
-    ensures each_done { IfOk result (λ w. (p : ℕ) → times p (places_of w.done.items) ≡ once I.count p) }
+    ensures each_done { IfOk result (λ w. (p : ℕ) → times p (places_of w.done.items) ≡ once S.count p) }
 {
     let mut rest = seat;
     let mut work: Work<N> = Work::new(alloc);

@@ -6,10 +6,11 @@ ghost use Rattle.reg_facts.specs.Lists.{first_numbers};
 ghost use Rattle.reg_work.specs.EndedWorkers.{ended_numbers};
 
 use crate::fault::Shortage;
-use crate::shared::{Shared, SharedIds};
+use crate::shared::Shared;
 use crate::work_loop::{EndedWorker, work};
 use crate::worker::Worker;
 use reg_deques::Numbered;
+use reg_run::{ReadyWorker, Sharing};
 use reg_tasks::{Gate, Naming, Task};
 use std::alloc::Global;
 use std::sync::Wait;
@@ -22,11 +23,11 @@ pub(crate) struct EndOf {
     number: u32,
 }
 
-impl<T: Numbered, N: Naming, I: SharedIds> Promise<EndedWorker<T, N, I>> for EndOf {
+impl<T: Numbered, N: Naming, S: Sharing> Promise<EndedWorker<T, N, S>> for EndOf {
     ghost kept_by = { λ promise ended_worker. ended_worker.number ≡ promise.number };
 }
 
-type Handle<N, I> = PromisedHandle<EndedWorker<Task<N>, N, I>, EndOf>;
+type Handle<N, S> = PromisedHandle<EndedWorker<Task<N>, N, S>, EndOf>;
 
 // Starts a thread for each worker, from worker 0 on, until one cannot be started. There is room for their handles.
 fn start_all<
@@ -34,17 +35,17 @@ fn start_all<
     'b: 's,
     E,
     N: Naming + Send + Sync + 's,
-    I: SharedIds + Send + Sync + 's,
+    S: Sharing + Send + Sync + 's,
     R: Wait + Sync + 's,
     G: Gate + 's,
 >(
     scope: &Scope<'s, E>,
     rt: &'s R,
     alloc: Global,
-    shared: &'s Shared<'b, Task<N>, N, I>,
+    shared: &'s Shared<'b, Task<N>, N, S>,
     gate: &'s G,
-    unstarted: Vec<Worker<Task<N>, N, I>>,
-    handles: &mut Vec<Handle<N, I>>,
+    unstarted: Vec<ReadyWorker<Task<N>, S>>,
+    handles: &mut Vec<Handle<N, S>>,
 ) -> Result<(), Shortage>
     requires none { handles.old.items ≡ [] }
     requires room { vec_len unstarted ≤ vec_capacity handles.old }
@@ -59,9 +60,9 @@ fn start_all<
         let number = next;
         let started = scope.spawn_with(
             EndOf { number },
-            move || -> EndedWorker<Task<N>, N, I>
+            move || -> EndedWorker<Task<N>, N, S>
                 ensures { result.number ≡ number }
-            { work(rt, alloc, shared, gate, number, worker) },
+            { work(rt, alloc, shared, gate, number, Worker::new(alloc, worker)) },
         );
         let Ok(handle) = started else {
             return Err(Shortage::Thread);
@@ -73,10 +74,10 @@ fn start_all<
 }
 
 // Joins all threads, and keeps what they leave, for which there is room.
-fn join_all<N: Naming, I: SharedIds, R: Threads>(
+fn join_all<N: Naming, S: Sharing, R: Threads>(
     rt: &R,
-    handles: Vec<Handle<N, I>>,
-    ended_workers: &mut Vec<EndedWorker<Task<N>, N, I>>,
+    handles: Vec<Handle<N, S>>,
+    ended_workers: &mut Vec<EndedWorker<Task<N>, N, S>>,
 )
     requires none { ended_workers.old.items ≡ [] }
     requires room { vec_len handles + 1 ≤ vec_capacity ended_workers.old }
@@ -90,7 +91,7 @@ fn join_all<N: Naming, I: SharedIds, R: Threads>(
 }
 
 // Joins all threads that were started, which were told to leave. What they leave is dropped.
-fn join_and_drop<N: Naming, I: SharedIds, R: Threads>(rt: &R, handles: Vec<Handle<N, I>>) {
+fn join_and_drop<N: Naming, S: Sharing, R: Threads>(rt: &R, handles: Vec<Handle<N, S>>) {
     for handle in handles {
         handle.join(rt);
     }
@@ -103,17 +104,17 @@ fn join_and_drop<N: Naming, I: SharedIds, R: Threads>(rt: &R, handles: Vec<Handl
 /// memory ran out.
 pub(crate) fn run_in_threads<
     N: Naming + Send + Sync,
-    I: SharedIds + Send + Sync,
+    S: Sharing + Send + Sync,
     R: Threads + Wait + Sync,
     G: Gate,
 >(
     rt: &R,
     alloc: Global,
-    shared: &Shared<'_, Task<N>, N, I>,
+    shared: &Shared<'_, Task<N>, N, S>,
     gate: &G,
-    unstarted: Vec<Worker<Task<N>, N, I>>,
-    last: Worker<Task<N>, N, I>,
-) -> Result<Vec<EndedWorker<Task<N>, N, I>>, Shortage>
+    unstarted: Vec<ReadyWorker<Task<N>, S>>,
+    last: ReadyWorker<Task<N>, S>,
+) -> Result<Vec<EndedWorker<Task<N>, N, S>>, Shortage>
     requires few { vec_len unstarted ≤ 7 }
     ensures workers { IfOk result
         (λ ended_workers. ended_numbers ended_workers.items ≡ first_numbers (vec_len unstarted + 1)) }
@@ -123,14 +124,14 @@ pub(crate) fn run_in_threads<
     thread::scope(
         thread::scope_env(),
         rt,
-        move |scope| -> Result<Vec<EndedWorker<Task<N>, N, I>>, Shortage>
+        move |scope| -> Result<Vec<EndedWorker<Task<N>, N, S>>, Shortage>
             requires few { vec_len unstarted ≤ 7 }
             requires number { count ≡ vec_len unstarted }
             ensures workers { IfOk result
                 (λ ended_workers. ended_numbers ended_workers.items ≡ first_numbers (vec_len unstarted + 1)) }
             ensures each { IfOk result (λ ended_workers. vec_len ended_workers ≡ vec_len unstarted + 1) }
         {
-            let mut last = last;
+            let mut last = Worker::new(alloc, last);
             let mut handles = Vec::with_capacity(alloc, count)?;
             let mut ended_workers = Vec::with_capacity(alloc, count + 1)?;
             let Ok(()) = start_all(scope, rt, alloc, shared, gate, unstarted, &mut handles) else {

@@ -3,42 +3,37 @@
 ghost use Rattle.std.specs.Prelude.{◌≡◌, [], length};
 ghost use Rattle.reg_claim.specs.Seats.{known, seat_table, IsToFinish};
 ghost use Rattle.reg_tasks.specs.Gathering.{places_of};
-ghost use Rattle.reg_deques.specs.Yards.{deques_of_pass};
 ghost use Rattle.reg_work.specs.Shifts.{places_ran};
 
 use crate::execution::Execution;
-use crate::shared::{Shared, SharedIds};
+use crate::shared::Shared;
 use reg_base::NoMemory;
 use reg_claim::Seat;
 use reg_deques::Numbered;
+use reg_run::{ReadyWorker, Sharing, Taken, Taker};
 use reg_tasks::{Done, Gate, Lack, LastParcel, Naming, Parcel, Ran, Task};
-use reg_yard::{Owner, Pass, Steal};
 use std::alloc::Global;
-use std::marker::PhantomData;
 use std::sync::Wait;
 use std::sync::atomic::Ordering;
 
 // So many places are opened at once. The values of so many instructions are still near the processor when they are run.
 const AT_ONCE: u32 = 32;
 
-/// A worker: its deque of tasks, what it knows of the others, its seat, and what it did.
+/// A worker: how it takes tasks, its seat, and what it did.
 #[derive(Drop)]
-pub(crate) struct Worker<T: Numbered, N: Naming, I: SharedIds> {
-    pub(crate) owner: Owner<T>,
-    pub(crate) pass: Pass<T>,
+pub(crate) struct Worker<T: Numbered, N: Naming, S: Sharing> {
+    pub(crate) taker: Taker<T, S>,
     pub(crate) seat: Seat,
     pub(crate) ran: Vec<Ran<N>>,
     pub(crate) done: Vec<Done<N>>,
     pub(crate) closing: Vec<LastParcel<N>>,
-    pub(crate) of: PhantomData<I>,
-    pub(crate) ghost table_is: { seat_table seat ≡ I.table },
+    pub(crate) ghost table_is: { seat_table seat ≡ S.table },
     pub(crate) ghost one_stake: { (known seat).stake ≡ 1 },
     pub(crate) ghost finished: { places_ran ran.items ≡ (known seat).finished },
     pub(crate) ghost rows: { places_of done.items ≡ (known seat).finished },
-    pub(crate) ghost deques_are: { deques_of_pass pass ≡ I.deques },
 }
 
-impl<N: Naming, I: SharedIds> Worker<Task<N>, N, I> {
+impl<N: Naming, S: Sharing> Worker<Task<N>, N, S> {
     ghost use Rattle.std.specs.Prelude.{◌⊎◌, true, false, Some, ◌++◌, ◌∷◌, IfOk, IfSome, IfNone, OnOk};
     ghost use Rattle.std.specs.Option.{option_map};
     ghost use Rattle.reg_plan.specs.Plans.{inward};
@@ -49,44 +44,32 @@ impl<N: Naming, I: SharedIds> Worker<Task<N>, N, I> {
     ghost use Rattle.reg_tasks.specs.Parcels.{values_of};
     ghost use Rattle.reg_tasks.specs.Slots.{name_of};
     ghost use Rattle.reg_tasks.specs.Tasks.{task_of};
-    ghost use Rattle.reg_deques.specs.Views.{with_put};
-    ghost use Rattle.reg_deques.specs.Steps.{TakesOwn};
-    ghost use Rattle.reg_deques.specs.Passes.{owned};
-    ghost use Rattle.reg_deques.specs.Yards.{views, StealsAny};
+    ghost use Rattle.reg_run.specs.Taking.{TakesNext, known_by, knows_put};
     ghost use Rattle.reg_yard.specs.Parcels.{parcel_of, goes_to};
     ghost use Rattle.reg_work.specs.Ends.{sees_end};
-    ghost use Rattle.reg_work.specs.Frames.{OwnerAlone, PassAlone, SeatAlone};
+    ghost use Rattle.reg_work.specs.Frames.{IsSameThief, OwnerAlone, SeatAlone, TakerAlone};
     ghost use Rattle.reg_work.specs.Handing.{IsDelivered, with_task};
     ghost use Rattle.reg_work.specs.Executions.{reply_at};
 
-    pub(crate) fn new(
-        alloc: Global,
-        owner: Owner<Task<N>>,
-        pass: Pass<Task<N>>,
-        seat: Seat,
-    ) -> Worker<Task<N>, N, I>
-        requires table { seat_table seat ≡ I.table }
-        requires stake { (known seat).stake ≡ 1 }
-        requires fresh { (known seat).finished ≡ [] }
-        requires deques { deques_of_pass pass ≡ I.deques }
-        ensures same { known result.seat ≡ known seat }
-        ensures sides { (result.owner ≡ owner) × (result.pass ≡ pass) }
+    /// A worker begins: it did nothing yet.
+    pub(crate) fn new(alloc: Global, ready: ReadyWorker<Task<N>, S>) -> Worker<Task<N>, N, S>
+        ensures same { known result.seat ≡ known ready.seat }
+        ensures taker { known_by result.taker ≡ known_by ready.taker }
         ensures none { (result.ran.items ≡ []) × (result.done.items ≡ []) × (result.closing.items ≡ []) }
     {
+        let ReadyWorker { taker, seat } = ready;
         Worker {
-            owner,
-            pass,
+            taker,
             seat,
             ran: Vec::new(alloc),
             done: Vec::new(alloc),
             closing: Vec::new(alloc),
-            of: PhantomData,
         }
     }
 
     /// Whether all places are finished, or the workers are to leave.
-    pub(crate) fn is_over(&mut self, shared: &Shared<'_, Task<N>, N, I>) -> bool
-        ensures over { result ≡ sees_end I.count (known self.new.seat) }
+    pub(crate) fn is_over(&mut self, shared: &Shared<'_, Task<N>, N, S>) -> bool
+        ensures over { result ≡ sees_end S.count (known self.new.seat) }
         ensures rest { SeatAlone self.old self.new }
     {
         let look = shared.table.look(&mut self.seat);
@@ -94,8 +77,8 @@ impl<N: Naming, I: SharedIds> Worker<Task<N>, N, I> {
     }
 
     /// Tells all workers to leave.
-    pub(crate) fn stop(&mut self, shared: &Shared<'_, Task<N>, N, I>)
-        ensures over { sees_end I.count (known self.new.seat) ≡ true }
+    pub(crate) fn stop(&mut self, shared: &Shared<'_, Task<N>, N, S>)
+        ensures over { sees_end S.count (known self.new.seat) ≡ true }
         ensures rest { SeatAlone self.old self.new }
     {
         shared.table.stop(&mut self.seat);
@@ -110,7 +93,7 @@ impl<N: Naming, I: SharedIds> Worker<Task<N>, N, I> {
         &mut self,
         rt: &R,
         alloc: Global,
-        shared: &Shared<'_, Task<N>, N, I>,
+        shared: &Shared<'_, Task<N>, N, S>,
     ) -> Result<bool, Lack>
         ensures rest { OwnerAlone self.old self.new }
     {
@@ -131,14 +114,14 @@ impl<N: Naming, I: SharedIds> Worker<Task<N>, N, I> {
         &mut self,
         rt: &R,
         alloc: Global,
-        shared: &Shared<'_, Task<N>, N, I>,
+        shared: &Shared<'_, Task<N>, N, S>,
         place: u32,
     ) -> Result<(), Lack>
         requires place { IsPlaceOf shared.now.context.now.batch.now place }
         ensures rest { OwnerAlone self.old self.new }
         ensures task { OnOk result
             (length (inward shared.now.context.now.plan.arrows place) ≡ 0
-            → owned self.new.owner ≡ with_put (place ∷ []) (owned self.old.owner)) }
+            → known_by self.new.taker ≡ knows_put (place ∷ []) (known_by self.old.taker)) }
     {
         if let Some(task) = Task::open(alloc, shared.context, place)? {
             return self.put(task);
@@ -155,11 +138,10 @@ impl<N: Naming, I: SharedIds> Worker<Task<N>, N, I> {
     // Puts a task into the worker's own deque.
     fn put(&mut self, task: Task<N>) -> Result<(), Lack>
         ensures rest { OwnerAlone self.old self.new }
-        ensures task { OnOk result (owned self.new.owner ≡ with_put (task.place ∷ []) (owned self.old.owner)) }
+        ensures task { OnOk result
+            (known_by self.new.taker ≡ knows_put (task.place ∷ []) (known_by self.old.taker)) }
     {
-        if self.owner.put(task).is_err() {
-            return Err(Lack::Memory);
-        }
+        self.taker.put(task)?;
         Ok(())
     }
 
@@ -168,13 +150,13 @@ impl<N: Naming, I: SharedIds> Worker<Task<N>, N, I> {
     fn deliver<R: Wait>(
         &mut self,
         rt: &R,
-        shared: &Shared<'_, Task<N>, N, I>,
+        shared: &Shared<'_, Task<N>, N, S>,
         parcel: Parcel<N>,
     ) -> Result<(), Lack>
         ensures rest { OwnerAlone self.old self.new }
         ensures delivered { OnOk result
             (IsDelivered N.day (goes_to shared.now.docks.context.now.plan (parcel_of parcel)) (parcel_of parcel)
-            (owned self.old.owner) (owned self.new.owner)) }
+            (known_by self.old.taker).own (known_by self.new.taker).own) }
     {
         match shared.docks.deliver(rt, parcel) {
             Ok(task) => self.put_complete(task),
@@ -186,7 +168,7 @@ impl<N: Naming, I: SharedIds> Worker<Task<N>, N, I> {
     fn put_complete(&mut self, complete: Option<Task<N>>) -> Result<(), Lack>
         ensures rest { OwnerAlone self.old self.new }
         ensures task { OnOk result
-            (owned self.new.owner ≡ with_task (option_map task_of complete) (owned self.old.owner)) }
+            ((known_by self.new.taker).own ≡ with_task (option_map task_of complete) (known_by self.old.taker).own) }
     {
         match complete {
             Some(task) => self.put(task),
@@ -196,25 +178,23 @@ impl<N: Naming, I: SharedIds> Worker<Task<N>, N, I> {
 
     /// The first task of its own deque.
     pub(crate) fn take_own(&mut self) -> Option<Task<N>>
-        ensures rest { OwnerAlone self.old self.new }
-        ensures some { IfSome result (λ t. TakesOwn (owned self.old.owner) t.place (owned self.new.owner)) }
-        ensures none { IfNone result (owned self.new.owner ≡ owned self.old.owner) }
+        ensures rest { TakerAlone self.old self.new }
+        ensures some { IfSome result
+            (λ t. TakesNext (known_by self.old.taker) false t.place (known_by self.new.taker)) }
+        ensures none { IfNone result (known_by self.new.taker ≡ known_by self.old.taker) }
     {
-        self.owner.take_own()
+        self.taker.take_own()
     }
 
-    /// The first task of another worker's deque. The deques are tried in rising number. `None` if each was empty, or if
-    /// somebody was quicker.
-    pub(crate) fn steal(&mut self, shared: &Shared<'_, Task<N>, N, I>) -> Option<Task<N>>
-        ensures rest { PassAlone self.old self.new }
+    /// The first task of its own deque, or else of another worker's: these are tried in rising number. `None` if each
+    /// was empty.
+    pub(crate) fn take(&mut self, shared: &Shared<'_, Task<N>, N, S>) -> Option<Taken<Task<N>>>
+        ensures rest { TakerAlone self.old self.new }
         ensures some { IfSome result
-            (λ t. StealsAny self.old.pass.worker (views self.old.pass) t.place (views self.new.pass)) }
-        ensures none { IfNone result (views self.new.pass ≡ views self.old.pass) }
+            (λ t. TakesNext (known_by self.old.taker) t.stolen t.task.place (known_by self.new.taker)) }
+        ensures none { IfNone result (known_by self.new.taker ≡ known_by self.old.taker) }
     {
-        match shared.yard.steal_any(&mut self.pass) {
-            Steal::Success(task) => Some(task),
-            Steal::Empty | Steal::Retry => None,
-        }
+        self.taker.take(&shared.yard)
     }
 
     /// Claims the place of a task, then passes the gate and runs the task. If the place is claimed already, the task is
@@ -226,7 +206,7 @@ impl<N: Naming, I: SharedIds> Worker<Task<N>, N, I> {
     pub(crate) fn run<G: Gate>(
         &mut self,
         alloc: Global,
-        shared: &Shared<'_, Task<N>, N, I>,
+        shared: &Shared<'_, Task<N>, N, S>,
         gate: &G,
         worker: u32,
         task: Task<N>,
@@ -257,7 +237,7 @@ impl<N: Naming, I: SharedIds> Worker<Task<N>, N, I> {
     fn run_claimed<G: Gate>(
         &self,
         alloc: Global,
-        shared: &Shared<'_, Task<N>, N, I>,
+        shared: &Shared<'_, Task<N>, N, S>,
         gate: &G,
         worker: u32,
         task: Task<N>,
@@ -284,12 +264,12 @@ impl<N: Naming, I: SharedIds> Worker<Task<N>, N, I> {
     pub(crate) fn hand_on<R: Wait>(
         &mut self,
         rt: &R,
-        shared: &Shared<'_, Task<N>, N, I>,
+        shared: &Shared<'_, Task<N>, N, S>,
         execution: &mut Execution<N>,
     ) -> Result<(), Lack>
         ensures seat { self.new.seat ≡ self.old.seat }
         ensures work { (self.new.ran ≡ self.old.ran) × (self.new.done ≡ self.old.done) }
-        ensures pass { self.new.pass ≡ self.old.pass }
+        ensures others { IsSameThief (known_by self.old.taker) (known_by self.new.taker) }
         ensures ran { (execution.new.ran ≡ execution.old.ran) × (execution.new.done ≡ execution.old.done) }
         ensures all { OnOk result (execution.new.left.items ≡ []) }
     {
@@ -304,15 +284,15 @@ impl<N: Naming, I: SharedIds> Worker<Task<N>, N, I> {
     fn hand_on_one<R: Wait>(
         &mut self,
         rt: &R,
-        shared: &Shared<'_, Task<N>, N, I>,
+        shared: &Shared<'_, Task<N>, N, S>,
         parcel: Parcel<N>,
     ) -> Result<(), Lack>
         ensures seat { self.new.seat ≡ self.old.seat }
         ensures work { (self.new.ran ≡ self.old.ran) × (self.new.done ≡ self.old.done) }
-        ensures pass { self.new.pass ≡ self.old.pass }
+        ensures others { IsSameThief (known_by self.old.taker) (known_by self.new.taker) }
         ensures handed { OnOk result
             (IsDelivered N.day (goes_to shared.now.docks.context.now.plan (parcel_of parcel)) (parcel_of parcel)
-            (owned self.old.owner) (owned self.new.owner)
+            (known_by self.old.taker).own (known_by self.new.taker).own
             ⊎ (parcels_in self.new.closing.items ≡ parcels_in self.old.closing.items ++ parcel ∷ [])) }
     {
         match shared.docks.deliver(rt, parcel) {
@@ -322,11 +302,10 @@ impl<N: Naming, I: SharedIds> Worker<Task<N>, N, I> {
     }
 
     // Keeps a parcel that no dock awaits, if it is the last one of its account.
-    fn keep(&mut self, shared: &Shared<'_, Task<N>, N, I>, parcel: Parcel<N>) -> Result<(), Lack>
+    fn keep(&mut self, shared: &Shared<'_, Task<N>, N, S>, parcel: Parcel<N>) -> Result<(), Lack>
         ensures seat { self.new.seat ≡ self.old.seat }
         ensures work { (self.new.ran ≡ self.old.ran) × (self.new.done ≡ self.old.done) }
-        ensures pass { self.new.pass ≡ self.old.pass }
-        ensures owner { self.new.owner ≡ self.old.owner }
+        ensures taker { self.new.taker ≡ self.old.taker }
         ensures kept { OnOk result
             (parcels_in self.new.closing.items ≡ parcels_in self.old.closing.items ++ parcel ∷ []) }
         ensures last { OnOk result
@@ -345,7 +324,7 @@ impl<N: Naming, I: SharedIds> Worker<Task<N>, N, I> {
     /// `NoMemory` if memory ran out.
     pub(crate) fn finish(
         &mut self,
-        shared: &Shared<'_, Task<N>, N, I>,
+        shared: &Shared<'_, Task<N>, N, S>,
         execution: Execution<N>,
     ) -> Result<(), NoMemory>
         requires claimed { IsToFinish execution.ran.place (known self.old.seat) }
@@ -353,8 +332,7 @@ impl<N: Naming, I: SharedIds> Worker<Task<N>, N, I> {
         ensures ran { OnOk result (self.new.ran.items ≡ self.old.ran.items ++ execution.ran ∷ []) }
         ensures done { OnOk result (self.new.done.items ≡ self.old.done.items ++ execution.done ∷ []) }
         ensures closing { self.new.closing ≡ self.old.closing }
-        ensures owner { self.new.owner ≡ self.old.owner }
-        ensures pass { self.new.pass ≡ self.old.pass }
+        ensures taker { self.new.taker ≡ self.old.taker }
     {
         self.ran.reserve(1)?;
         self.done.reserve(1)?;

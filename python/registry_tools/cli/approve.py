@@ -34,7 +34,6 @@ def add_words(parser: argparse.ArgumentParser) -> None:
 
 def run(said: argparse.Namespace) -> int:
     """Runs the command, and answers the exit status."""
-    words.one_line("who", said.who)
     if not said.what:
         return show_waiting(said)
     if said.what[0] in OF_DATES:

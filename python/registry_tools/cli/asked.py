@@ -8,8 +8,9 @@ from collections.abc import Iterator, Sequence
 from dataclasses import dataclass
 from typing import TypeVar
 
-from registry_tools import showing, tables
+from registry_tools import tables
 from registry_tools.calendars.dates import date_of
+from registry_tools.cli import answers
 from registry_tools.errors import WordsFault, shown
 from registry_tools.office import folder
 from registry_tools.pairs import naming
@@ -98,4 +99,4 @@ def rows_shown(
     said: argparse.Namespace, columns: Columns, rows: Sequence[Sequence[Cell]], names: Labels
 ) -> Sequence[Sequence[Cell]]:
     """Rows with names beside the numbers: for people. Programs get the numbers alone."""
-    return rows if showing.is_for_programs(said) else naming.with_names(columns.names, rows, names)
+    return rows if answers.is_for_programs(said) else naming.with_names(columns.names, rows, names)

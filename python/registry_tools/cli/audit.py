@@ -26,7 +26,7 @@ import datetime
 import sys
 
 from registry_tools import showing, tables
-from registry_tools.cli import asked, words
+from registry_tools.cli import answers, asked, words
 from registry_tools.errors import FOUND
 from registry_tools.notes import LOOK
 from registry_tools.office import folder
@@ -47,7 +47,7 @@ def add_words(parser: argparse.ArgumentParser) -> None:
     parser.add_argument("--date", metavar="DATE", help="the last day of the state with the head of --since")
     parser.add_argument("--anchors", metavar="FILE", help="look whether it has grown from each of these anchors")
     words.add_office(parser)
-    showing.add_words(parser)
+    answers.add_words(parser)
 
 
 def run(said: argparse.Namespace) -> int:
@@ -57,7 +57,7 @@ def run(said: argparse.Namespace) -> int:
     found = audit.audit(path, Audit(said.settle, said.second, begin, said.since, date, said.anchors))
     rows = map(showing.fault_row, found.faults)
     told = [*map(str, found.faults), found.summary(), ""]
-    showing.show_or_tell(said, COLUMNS, rows, lambda: "\n".join(told))
+    answers.show_or_tell(said, COLUMNS, rows, lambda: "\n".join(told))
     there = found.office.events
     for line in (*audit.engines_told(there), *audit.clock_told(there), *audit.people_told(there)):
         print(line, file=sys.stderr)

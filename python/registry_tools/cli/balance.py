@@ -3,8 +3,8 @@ day up to DATE.
 """
 import argparse
 
-from registry_tools import showing, tables
-from registry_tools.cli import asked
+from registry_tools import tables
+from registry_tools.cli import answers, asked
 from registry_tools.questions.balance import balance
 
 EXAMPLE = "./day balance 100210 --on 2025-09-24 --office out/office"
@@ -15,7 +15,7 @@ def add_words(parser: argparse.ArgumentParser) -> None:
     """Tells a parser the words of the command."""
     parser.add_argument("account", metavar="ACCOUNT", help="an account, by its number or its name")
     parser.add_argument("--on", metavar="DATE", help="a day; without it, the last settled one")
-    showing.add_words(parser)
+    answers.add_words(parser)
     asked.add_words(parser)
 
 
@@ -24,5 +24,5 @@ def run(said: argparse.Namespace) -> int:
     on = asked.date_or("--on", said.on, None)
     with asked.opened(said) as own:
         rows = balance(own.days, asked.number_said("ACCOUNT", said.account, own.names), on)
-    showing.show(said, COLUMNS, asked.rows_shown(said, COLUMNS, rows, own.names))
+    answers.show(said, COLUMNS, asked.rows_shown(said, COLUMNS, rows, own.names))
     return 0

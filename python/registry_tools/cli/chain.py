@@ -21,7 +21,7 @@ import argparse
 from registry_tools.engine import settler_of
 from registry_tools.errors import FOUND, WordsFault
 from registry_tools.notes import counted
-from registry_tools.options import add_engine, add_to
+from registry_tools.cli.options import add_engine, add_to
 from registry_tools.output import write_answer
 from registry_tools.questions.chain import Chain, Changes
 

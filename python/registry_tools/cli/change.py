@@ -24,7 +24,7 @@ from registry_tools.pairs import edits
 from registry_tools.office.change import LAG, LAGS, Change
 from registry_tools.pairs.edits import ADD, DROP, OPEN, PUT, Edit
 from registry_tools.texts.labels import Labels
-from registry_tools.options import add_to
+from registry_tools.cli.options import add_to
 from registry_tools.output import write_answer
 from registry_tools.texts.follows import read_pair
 
@@ -165,7 +165,6 @@ def run(said: argparse.Namespace) -> int:
     if said.to is not None:
         raise WordsFault("--to is for --pairs: a folder keeps the change itself")
     why = words.one_line("why", said.why)
-    words.one_line("who", said.who)
     with folder.opened(said.office) as office:
         asked = Change(tuple(edits_of(said, office.names())), why, said.yes)
         came = change.change_by_hand(office, words.by(said, office), asked)

@@ -5,8 +5,7 @@ With --pairs the rows that went (-) and came (+) between each day and the next o
 """
 import argparse
 
-from registry_tools import showing
-from registry_tools.cli import asked
+from registry_tools.cli import answers, asked
 from registry_tools.errors import WordsFault
 from registry_tools.office import folder
 from registry_tools.questions import changes, days
@@ -17,7 +16,7 @@ EXAMPLE = "./day changes --office out/office"
 
 def add_words(parser: argparse.ArgumentParser) -> None:
     """Tells a parser the words of the command."""
-    showing.add_words(parser)
+    answers.add_words(parser)
     asked.add_words(parser)
 
 
@@ -30,5 +29,5 @@ def run(said: argparse.Namespace) -> int:
     else:
         with folder.opened(said.office) as office:
             rows = [*changes.changes_of(office)]
-    showing.show(said, COLUMNS, rows)
+    answers.show(said, COLUMNS, rows)
     return 0

@@ -41,7 +41,6 @@ def add_words(parser: argparse.ArgumentParser) -> None:
 
 def run(said: argparse.Namespace) -> int:
     """Runs the command, and answers the exit status."""
-    words.one_line("who", said.who)
     date = None if said.date is None else dates.date_of(voice.option("date"), said.date)
     with folder.opened(said.office) as office:
         came = closing.close(office, words.by(said, office), Close(date, said.second, said.verify, said.yes))

@@ -26,10 +26,9 @@ blocked one counts as an open one.
 import argparse
 import sys
 
-from registry_tools import showing
 from registry_tools.errors import FOUND
-from registry_tools.cli import named
-from registry_tools.options import add_pair
+from registry_tools.cli import answers, named
+from registry_tools.cli.options import add_pair
 from registry_tools.pairs import compliance
 from registry_tools.pairs.compliance import COLUMNS
 from registry_tools.texts.follows import read_pair
@@ -42,7 +41,7 @@ def add_words(parser: argparse.ArgumentParser) -> None:
     add_pair(parser)
     parser.add_argument("--year", type=int, metavar="Y", help="the year; its period is the one that has it")
     named.add_words(parser)
-    showing.add_words(parser)
+    answers.add_words(parser)
 
 
 def run(said: argparse.Namespace) -> int:
@@ -52,7 +51,7 @@ def run(said: argparse.Namespace) -> int:
     rows = [*compliance.standings(day, report, year)]
     names = named.labels_of(said)
     shown = map(compliance.cells, rows)
-    showing.show_or_tell(said, COLUMNS, shown, lambda: compliance.as_table(day, rows, year, names))
-    if showing.is_for_programs(said):
+    answers.show_or_tell(said, COLUMNS, shown, lambda: compliance.as_table(day, rows, year, names))
+    if answers.is_for_programs(said):
         print("\n".join(compliance.counts(rows)), file=sys.stderr)
     return FOUND if any(map(compliance.is_open, rows)) else 0

@@ -19,9 +19,9 @@ import argparse
 
 from registry_tools.calendars import dates
 from registry_tools.cli import papers, words
-from registry_tools.errors import FOUND
+from registry_tools.errors import FOUND, Fault
 from registry_tools.office import folder
-from registry_tools.office.correct import Behind, Correct, Corrected, Shown, correct
+from registry_tools.office.correct import Correct, Corrected, Shown, correct
 
 EXAMPLE = './day correct 2025-09-23 --without 61009 --why "entered twice" --second --office out/office'
 
@@ -45,14 +45,14 @@ def run(said: argparse.Namespace) -> int:
     """Runs the command, and answers the exit status."""
     why, date = words.one_line("why", said.why), dates.date_of("DATE", said.date)
     without, files = tuple(dict.fromkeys(said.without)), words.given(said.files)
-    words.one_line("who", said.who)
     asked = Correct(date, why, without, files, said.second, said.verify, said.yes)
     with folder.opened(said.office) as office:
         try:
             came = correct(office, words.by(said, office), asked)
-        except Behind as behind:
-            words.to_errors(f"{behind.date}, which stands behind it, can't be closed so:")
-            raise behind.fault from None
+        except Fault as fault:
+            if fault.behind:
+                words.to_errors(f"{fault.behind}, which stands behind it, can't be closed so:")
+            raise
         if isinstance(came, Corrected):
             tell(came.shown)
             for each in came.days:

@@ -19,8 +19,8 @@ People are shown the first working days that are over, and how many more; progra
 """
 import argparse
 
-from registry_tools import showing, tables
-from registry_tools.cli import asked, words
+from registry_tools import tables
+from registry_tools.cli import answers, asked, words
 from registry_tools.office import folder
 from registry_tools.output import NewFile
 from registry_tools.questions import due
@@ -34,7 +34,7 @@ def add_words(parser: argparse.ArgumentParser) -> None:
     parser.add_argument("--until", metavar="DATE", help="the last day that is shown")
     parser.add_argument("--ics", metavar="FILE", help="write a calendar to this file")
     words.add_office(parser)
-    showing.add_words(parser)
+    answers.add_words(parser)
 
 
 def run(said: argparse.Namespace) -> int:
@@ -46,6 +46,6 @@ def run(said: argparse.Namespace) -> int:
         NewFile(said.ics, due.as_calendar(found, until)).keep()
         print(f"{said.ics}: entries {len(found)}")
         return 0
-    rows = [own.cells() for own in (found if showing.is_for_programs(said) else due.folded(found))]
-    showing.show(said, COLUMNS, asked.rows_shown(said, COLUMNS, rows, names))
+    rows = [own.cells() for own in (found if answers.is_for_programs(said) else due.folded(found))]
+    answers.show(said, COLUMNS, asked.rows_shown(said, COLUMNS, rows, names))
     return 0

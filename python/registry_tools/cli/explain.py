@@ -18,8 +18,8 @@ from collections.abc import Iterator
 
 from registry_tools.calendars import working_days
 from registry_tools.errors import FOUND
+from registry_tools.cli.options import add_day_text, add_to
 from registry_tools.notes import first_of
-from registry_tools.options import add_day_text, add_to
 from registry_tools.output import write_answer
 from registry_tools.questions.explain import STILL_WRONG, day_or_fault, explained
 from registry_tools.second import rules

@@ -10,7 +10,7 @@ import argparse
 
 from registry_tools import showing
 from registry_tools.errors import WordsFault
-from registry_tools.options import add_pair, add_to, is_same_file
+from registry_tools.cli.options import add_pair, add_to, is_same_file
 from registry_tools.output import write_answer
 from registry_tools.sheets import writing
 from registry_tools.sheets import exporting

@@ -11,7 +11,7 @@ from collections.abc import Sequence
 from dataclasses import replace
 
 from registry_tools import showing, tables
-from registry_tools.cli import asked
+from registry_tools.cli import answers, asked
 from registry_tools.cli.asked import Asked
 from registry_tools.errors import FOUND, WordsFault
 from registry_tools.texts.labels import USER
@@ -37,7 +37,7 @@ def add_words(parser: argparse.ArgumentParser) -> None:
     parser.add_argument("--from", dest="begin", metavar="DATE", help="from this day on")
     parser.add_argument("--to", dest="end", metavar="DATE", help="up to this day")
     # (--to is a day here)
-    showing.add_forms(parser)
+    answers.add_forms(parser)
     parser.set_defaults(to=None)
     asked.add_words(parser)
 
@@ -50,7 +50,7 @@ def run(said: argparse.Namespace) -> int:
         meant = find.accounts_meant(own.days, wanted)
         rows = [cells for logged in find.find(own.days, wanted) for cells in find.cells_of(logged, meant)]
     shown = asked.rows_shown(said, COLUMNS, rows, own.names)
-    showing.show_or_tell(said, COLUMNS, shown, lambda: told_of(shown, said.refused))
+    answers.show_or_tell(said, COLUMNS, shown, lambda: told_of(shown, said.refused))
     return 0 if rows else FOUND
 
 

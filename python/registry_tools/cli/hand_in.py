@@ -14,12 +14,12 @@ exit status: 0 if nothing of it would be refused, 1 if something would.
 """
 import argparse
 
-from registry_tools.cli import trial, words
+from registry_tools.cli import importing, trial, words
 from registry_tools.office import folder, hand_in, handed
 from registry_tools.office.hand_in import HandIn
 from registry_tools.office.handed import places
 from registry_tools.office.incoming import Forms
-from registry_tools.sheets import importing
+from registry_tools.sheets.importing import read_mapping
 
 EXAMPLE = "./day hand-in examples/week/tuesday-do.csv examples/week/tuesday-work.csv --office out/office"
 
@@ -41,9 +41,8 @@ def add_words(parser: argparse.ArgumentParser) -> None:
 def run(said: argparse.Namespace) -> int:
     """Runs the command, and answers the exit status."""
     are_accounts = said.accounts if said.accounts or said.instructions else None
-    forms = Forms(importing.read_mapping(said.mapping), said.dates, are_accounts)
+    forms = Forms(read_mapping(said.mapping), said.dates, are_accounts)
     asked = HandIn(words.given(said.files, said.called), tuple(said.again), forms)
-    words.one_line("who", said.who)
     with folder.opened(said.office) as office:
         added = hand_in.hand_in(office, words.by(said, office), asked)
     for part in added.parts:

@@ -3,8 +3,8 @@ between two days.
 """
 import argparse
 
-from registry_tools import showing, tables
-from registry_tools.cli import asked
+from registry_tools import tables
+from registry_tools.cli import answers, asked
 from registry_tools.errors import WordsFault
 from registry_tools.texts.labels import Labels
 from registry_tools.questions.history import history
@@ -16,7 +16,7 @@ COLUMNS = tables.COLUMNS["history"]
 def add_words(parser: argparse.ArgumentParser) -> None:
     """Tells a parser the words of the command."""
     parser.add_argument("account", metavar="ACCOUNT", help="an account, by its number or its name")
-    showing.add_words(parser)
+    answers.add_words(parser)
     asked.add_words(parser)
 
 
@@ -26,9 +26,9 @@ def run(said: argparse.Namespace) -> int:
         account = asked.number_said("ACCOUNT", said.account, own.names)
         if not own.days.dates:
             raise WordsFault("no day is settled yet")
-        names = Labels() if showing.is_for_programs(said) else own.names
+        names = Labels() if answers.is_for_programs(said) else own.names
         rows = history(own.days, account, names.account)
     if not rows:
         raise WordsFault(f"no day has had an account {account}")
-    showing.show(said, COLUMNS, rows)
+    answers.show(said, COLUMNS, rows)
     return 0

@@ -30,7 +30,6 @@ def add_words(parser: argparse.ArgumentParser) -> None:
 
 def run(said: argparse.Namespace) -> int:
     """Runs the command, and answers the exit status."""
-    words.one_line("who", said.who)
     path = Path(said.folder)
     asked = Init(path, said.first, said.program, said.statements, said.pages)
     if (path / SETTINGS).is_file():

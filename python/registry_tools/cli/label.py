@@ -16,7 +16,7 @@ import argparse
 from collections.abc import Iterator
 
 from registry_tools import showing, tables
-from registry_tools.cli import words
+from registry_tools.cli import answers, words
 from registry_tools.errors import WordsFault
 from registry_tools.notes import first_of
 from registry_tools.office import folder, label
@@ -40,7 +40,7 @@ def add_words(parser: argparse.ArgumentParser) -> None:
     words.add_office(parser)
     words.add_who(parser)
     parser.add_argument("--why", metavar="WORDS", help="the reason, which is kept: a change needs it")
-    showing.add_words(parser)
+    answers.add_words(parser)
 
 
 def run(said: argparse.Namespace) -> int:
@@ -50,12 +50,11 @@ def run(said: argparse.Namespace) -> int:
         with folder.opened(said.office) as office:
             there = office.names().named.values()
         rows = sorted(there, key=lambda own: (own.kind, int(own.number)))
-        showing.show(said, LISTED, [cells_of(said, own) for own in rows])
+        answers.show(said, LISTED, [cells_of(said, own) for own in rows])
         return 0
     if said.why is None:
         raise WordsFault("--why is needed: it is kept with the name")
     why, asked = words.one_line("why", said.why), [*asked_of(said)]
-    words.one_line("who", said.who)
     with folder.opened(said.office) as office:
         named = label.keep_names(office, words.by(said, office), asked, why)
     print("\n".join([*first_of([*lines_of(named)], MOST_TOLD), *named.doubts]))
@@ -75,13 +74,13 @@ def must_fit(said: argparse.Namespace) -> None:
     if not said.named and said.file is None:
         if said.why is not None:
             raise WordsFault("--why is for a change: name something, by KIND NUMBER NAME or --file")
-    elif showing.is_for_programs(said) or said.to is not None:
+    elif answers.is_for_programs(said) or said.to is not None:
         raise WordsFault("--csv, --json and --to are for the list of names")
 
 
 def cells_of(said: argparse.Namespace, own: Label) -> list[showing.Cell]:
     """The columns of the list."""
-    name = own.name if showing.is_for_programs(said) else labels.in_sight(own.name)
+    name = own.name if answers.is_for_programs(said) else labels.in_sight(own.name)
     more = (own.at or None, own.who or None, own.why or None)
     return [own.kind, int(own.number), name, *more]
 

@@ -23,8 +23,8 @@ each once.
 """
 import argparse
 
-from registry_tools import showing
-from registry_tools.options import is_day_named
+from registry_tools.cli import answers
+from registry_tools.cli.options import is_day_named
 from registry_tools.output import write_answer
 from registry_tools.pairs.log import COLUMNS, Log, log
 from registry_tools.texts.day_text import read_day
@@ -43,12 +43,12 @@ def add_words(parser: argparse.ArgumentParser) -> None:
     texts_of = "the day texts of reports, for due days; or dates of days of a folder, in place of reports"
     if not is_named:
         parser.add_argument("--day", dest="days", metavar="DAY", nargs="+", default=[], help=texts_of)
-    showing.add_words(parser)
+    answers.add_words(parser)
 
 
 def run(said: argparse.Namespace) -> int:
     """Runs the command, and answers the exit status."""
     reports, days = [*map(read_report, said.reports)], [*map(read_day, said.days)]
     rows = log(reports, days, Log(said.account, said.refused))
-    write_answer(showing.for_programs(said, COLUMNS.names, rows), said.to)
+    write_answer(answers.for_programs(said, COLUMNS.names, rows), said.to)
     return 0

@@ -9,7 +9,7 @@ import argparse
 
 from registry_tools.cli import asked
 from registry_tools.errors import WordsFault
-from registry_tools.options import is_same_file
+from registry_tools.cli.options import is_same_file
 from registry_tools.output import NewFile
 from registry_tools.pages import month
 from registry_tools.pages.month import Month

@@ -10,10 +10,10 @@ from collections.abc import Iterator
 from typing import Any
 
 from registry_tools.calendars.dates import DATE, date_of, is_date
-from registry_tools.errors import FileFault, WordsFault
+from registry_tools.errors import Fault, WordsFault
 from registry_tools.office import folder, handed
 from registry_tools.office.office import Office
-from registry_tools.options import A_DATE, Given, Words
+from registry_tools.cli.options import A_DATE, Given, Words
 from registry_tools.store.events import Event
 from registry_tools.store.past import kept, pair_of
 
@@ -59,7 +59,7 @@ def add_words(name: str, parser: Words) -> None:
 
 def in_place_of_paths(word: str | None = None) -> str:
     """The last day of a folder, as it is named where paths lack; nothing, if there is none."""
-    with contextlib.suppress(WordsFault, FileFault):
+    with contextlib.suppress(Fault):
         with folder.opened(word) as office:
             last = office.events.last()
             return f"; {DAY} {last.date} names the last day of the folder" if last else ""

@@ -20,7 +20,7 @@ import sys
 from registry_tools.calendars.dates import date_of
 from registry_tools.errors import FOUND
 from registry_tools.pairs.next import Next, next_text
-from registry_tools.options import add_pair, add_to
+from registry_tools.cli.options import add_pair, add_to
 from registry_tools.output import NewFile, write_answer
 
 EXAMPLE = (

@@ -21,7 +21,7 @@ import sys
 
 from registry_tools.cli import named
 from registry_tools.errors import WordsFault
-from registry_tools.options import add_pair
+from registry_tools.cli.options import add_pair
 from registry_tools.pages import page
 from registry_tools.pages.page import FILES, Page
 from registry_tools.pages.settled import count_of, told_in

@@ -69,7 +69,6 @@ def of_pairs(said: argparse.Namespace) -> Sent:
     """Makes the packages of pairs of paths."""
     own = days.of_pairs(days.pairs_named(said.pairs))
     wanted = send_of(said, own)
-    words.one_line("who", said.who)
     if said.release:
         raise WordsFault("--release is for a folder: paths are not released")
     return send.send(own, named.labels_of(said), wanted, said.folder, lambda: None)

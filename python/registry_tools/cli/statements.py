@@ -16,7 +16,7 @@ follows from DAY.
 """
 import argparse
 
-from registry_tools.options import add_pair
+from registry_tools.cli.options import add_pair
 from registry_tools.questions import statements
 from registry_tools.texts.follows import read_pair
 

@@ -9,8 +9,7 @@ import argparse
 import os
 import sys
 
-from registry_tools import showing
-from registry_tools.cli import words
+from registry_tools.cli import answers, words
 from registry_tools.errors import FOUND
 from registry_tools.notes import LOOK
 from registry_tools.office import folder
@@ -22,7 +21,7 @@ BOLD, RED, PLAIN = "\033[1m", "\033[31m", "\033[0m"
 
 def add_words(parser: argparse.ArgumentParser) -> None:
     """Tells a parser the words of the command."""
-    showing.add_words(parser)
+    answers.add_words(parser)
     words.add_office(parser)
 
 
@@ -35,7 +34,7 @@ def run(said: argparse.Namespace) -> int:
     """Runs the command, and answers the exit status."""
     with folder.opened(said.office) as office:
         stands = status(office)
-        showing.show_or_tell(said, COLUMNS, stands.rows, lambda: told_of(stands, said.to is None))
+        answers.show_or_tell(said, COLUMNS, stands.rows, lambda: told_of(stands, said.to is None))
     return FOUND if stands.faults else 0
 
 

@@ -31,7 +31,6 @@ def add_words(parser: argparse.ArgumentParser) -> None:
 def run(said: argparse.Namespace) -> int:
     """Runs the command, and answers the exit status."""
     why = words.one_line("why", said.why)
-    words.one_line("who", said.who)
     date = None if said.day is None else dates.date_of("DATE", said.day)
     meant = None if said.date is None else dates.date_of(voice.option("date"), said.date)
     with folder.opened(said.office) as office:

@@ -9,9 +9,10 @@ exit status: 0 if the report is what the rules make of the day, 1 if a row diffe
 import argparse
 
 from registry_tools import showing, tables
+from registry_tools.cli import answers
 from registry_tools.engine import settler_of
 from registry_tools.errors import FOUND
-from registry_tools.options import add_engine, add_pair
+from registry_tools.cli.options import add_engine, add_pair
 from registry_tools.pairs.verify import verify
 
 EXAMPLE = "./day verify examples/week/monday.csv examples/week/monday-report.csv"
@@ -22,7 +23,7 @@ def add_words(parser: argparse.ArgumentParser) -> None:
     """Tells a parser the words of the command."""
     add_pair(parser, "what is said to be its report")
     add_engine(parser, "--program", "compare with a program, such as ./run, or the library too")
-    showing.add_words(parser)
+    answers.add_words(parser)
 
 
 def run(said: argparse.Namespace) -> int:
@@ -32,5 +33,5 @@ def run(said: argparse.Namespace) -> int:
     counts, difference = (own.instructions, own.accounts), own.difference
     row: list[showing.Cell] = [str(said.day), str(said.report), *counts, "no" if difference else "yes"]
     so = f"{said.report} is what the rules make of {said.day}: instructions {counts[0]}, accounts {counts[1]}"
-    showing.show_or_tell(said, COLUMNS, [[*row, *showing.fault_row(difference)]], lambda: f"{difference or so}\n")
+    answers.show_or_tell(said, COLUMNS, [[*row, *showing.fault_row(difference)]], lambda: f"{difference or so}\n")
     return FOUND if difference else 0

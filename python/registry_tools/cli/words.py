@@ -5,16 +5,16 @@ import getpass
 import os
 import sys
 from collections.abc import Sequence
+from dataclasses import replace
 
 from registry_tools import outcomes, voice
 from registry_tools.errors import FOUND, WordsFault
 from registry_tools.notes import LOOK
-from registry_tools.office import people
 from registry_tools.office.approvals import AskedFor
 from registry_tools.office.folder import WHERE
 from registry_tools.office.incoming import Given
-from registry_tools.office.office import By, Office
-from registry_tools.office.people import People
+from registry_tools.office.office import By, Office, by_of
+from registry_tools.office.people import People, one_line as one_line
 from registry_tools.store import events
 
 
@@ -53,13 +53,6 @@ def add_day(parser: argparse.ArgumentParser, what: str) -> None:
     parser.add_argument("day", metavar="DATE", nargs="?", help=f"{what}; {without}")
 
 
-def one_line(name: str, word: str) -> str:
-    """A word that is kept in a line of what was done."""
-    if not word.strip() or any(not letter.isprintable() for letter in word):
-        raise WordsFault(f"{voice.option(name)} has to be some words in one line")
-    return word
-
-
 def by(said: argparse.Namespace, office: Office | None) -> By:
     """By whom the command is given, of the people that a folder knows, if it is there already: by the login of the
     process, or the one for which it may speak. Tells if the clock went back since the last event."""
@@ -67,7 +60,7 @@ def by(said: argparse.Namespace, office: Office | None) -> By:
         clock = f"the clock of this machine says {voice.time(now)}, and the last event is of {voice.time(last)}"
         to_errors(f"{LOOK}: {clock}: set it right, or what is done now seems to have been done earlier")
     known = office.people if office is not None else People()
-    return By(people.login_for(known, said.whom), one_line("who", said.who), said.seen, said.shown)
+    return replace(by_of(known, said.who, said.whom, said.seen), shown=said.shown)
 
 
 def add_named(parser: argparse.ArgumentParser) -> None:

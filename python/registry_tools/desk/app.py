@@ -15,7 +15,7 @@ from werkzeug.wrappers import Response
 from registry_tools import voice
 from registry_tools.desk import asks, coming, gate, heads, pages, posts, questions, search, shown, words
 from registry_tools.desk.gate import Served
-from registry_tools.errors import FileFault, WordsFault
+from registry_tools.errors import Fault, FileFault
 from registry_tools.pages import beside, html
 from registry_tools.pages.rulebook import FORMATS, RULES
 from registry_tools.pages.settled import long_date
@@ -90,7 +90,7 @@ def make(served: Served) -> flask.Flask:
     # (the gate stands before all pages, also those that are not there)
     app.before_request(functools.partial(gate.let_in, served))
     app.after_request(gate.with_headers)
-    for fault in (FileFault, WordsFault, OSError, HTTPException):
+    for fault in (Fault, OSError, HTTPException):
         app.register_error_handler(fault, functools.partial(failed, served))
     for rule, view in GET.items():
         app.add_url_rule(rule, f"GET {rule}", functools.partial(shown_now, served, view), methods=["GET"])

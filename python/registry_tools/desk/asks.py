@@ -1,7 +1,6 @@
 """What somebody asks for by a form, and looks at before a yes: each look has an address, so that it is there again
 behind Back, and is taken again as the folder is then. Its yes counts as long as the same comes of it."""
 import re
-from collections.abc import Iterator
 from typing import Any
 
 import flask

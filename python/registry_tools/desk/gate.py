@@ -35,7 +35,7 @@ HEADERS = {
     "Cache-Control": "no-store", "Cross-Origin-Opener-Policy": "same-origin",
     "Cross-Origin-Resource-Policy": "same-origin",
 }  # fmt: skip
-PLAIN = "text/plain; charset=utf-8"
+PLAIN, OTHER_TOKEN = "text/plain; charset=utf-8", "its token is not that of the browser"
 NO_DAY = "No day is settled yet: Today leads to the first one."
 # Who looks, and has not said a name yet.
 NOBODY = "nobody yet"
@@ -162,7 +162,7 @@ def refusal_of_form() -> Refusal | None:
         token = request.form.get("token", "").encode("utf-8", "replace")
         other = "The form is not of this desk, or it was started anew since. Nothing was done: look once more."
         is_own = hmac.compare_digest(token, flask.session["token"].encode())
-        return None if is_own else Refusal(403, other, "its token is not that of the browser")
+        return None if is_own else Refusal(403, other, OTHER_TOKEN)
     is_known = request.method in ("GET", "HEAD")
     return None if is_known else Refusal(405, "That is no method of this desk.", "no method of the desk")
 
@@ -170,7 +170,9 @@ def refusal_of_form() -> Refusal | None:
 def refuse(own: Head, refusal: Refusal) -> Response:
     """The page of a request that is refused."""
     log.refused(own.peer, own.method, own.path, refusal.code, refusal.why)
-    return said(refusal.code, refusal.text, is_again=refusal.is_again)
+    # (what was typed is there again)
+    back = back_of_form() if refusal.why == OTHER_TOKEN else ""
+    return said(refusal.code, refusal.text, is_again=refusal.is_again, back=back)
 
 
 def enter(served: Served, own: Head, key: str) -> Any:

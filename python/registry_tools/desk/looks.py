@@ -8,7 +8,7 @@ from typing import Any
 from registry_tools.cli import change as words_of_change, label as words_of_names
 from registry_tools.desk.reading import Reading
 from registry_tools.desk.words import label
-from registry_tools.errors import FileFault, WordsFault
+from registry_tools.errors import Fault, WordsFault
 from registry_tools.office import (
     approvals, approve, change, composing, hand_in, handed, label as labelling, trial, undo,
 )  # fmt: skip
@@ -18,7 +18,7 @@ from registry_tools.office.handed import HandedIn, Part
 from registry_tools.office.incoming import Forms, Given, TableFault
 from registry_tools.office.office import By, sum_of_outcome
 from registry_tools.office.waits import waits_of
-from registry_tools.options import TellingWords
+from registry_tools.cli.options import TellingWords
 from registry_tools.pages.beside import item_in_words, side_by_side
 from registry_tools.pairs.edits import Edit
 from registry_tools.texts.in_words import instruction_in_words
@@ -63,7 +63,7 @@ def look_at_incoming(own: Reading, by: By, files: list[Given], again: list[tuple
         return Look([fault.without_way()], (files.index(fault.of), fault.at))
     except TableFault as fault:
         return Look(faults_of_table(fault, is_typed(files)))
-    except (FileFault, WordsFault) as fault:
+    except Fault as fault:
         return Look([str(fault)])
 
 
@@ -134,7 +134,7 @@ def outcomes_with(own: Reading, handed_in: HandedIn, part: Part) -> dict[int, st
         return {}
     others = [each for each in handed_in.waiting if each.start != part.start]
     # (what keeps them out of the next day is told where that day is made)
-    with contextlib.suppress(WordsFault, FileFault):
+    with contextlib.suppress(Fault):
         office = own.office()
         date = composing.settlement_date(office, handed_in)
         next_day = composing.compose(office, replace(handed_in, waiting=others).until(date), date)

@@ -17,7 +17,7 @@ from registry_tools.desk import asks, forms, gate, looks, pictures, shown
 from registry_tools.desk.gate import Served
 from registry_tools.desk.reading import Reading
 from registry_tools.desk.shown import asked, number_asked, row_of_taken, show_page, sorted_table
-from registry_tools.errors import FileFault, WordsFault
+from registry_tools.errors import Fault, WordsFault
 from registry_tools.notes import LOOK
 from registry_tools.office import approvals, approve, handed, release as releasing, undo as undoing
 from registry_tools.office.office import Office
@@ -34,7 +34,7 @@ from registry_tools.pairs import settling
 from registry_tools.pairs.compliance import last_year_over
 from registry_tools.questions import due, taken
 from registry_tools.second import faults, passing, rules
-from registry_tools.sheets import form
+from registry_tools.cli import form
 from registry_tools.texts.books import Sums, sums_of, sums_told
 from registry_tools.texts.in_words import grouped, instruction_in_words
 
@@ -216,7 +216,7 @@ def close(served: Served) -> Any:
     try:
         (outcome_of, comes), left = own.closing(date)
         notes = [*outcome_of.notes, *left, *compliant_told(outcome_of)]
-    except (WordsFault, FileFault) as fault:
+    except Fault as fault:
         why, notes = str(fault), []
     return show_page(
         "close", "Close", date=date, dates=dates, why=why, own=outcome_of,

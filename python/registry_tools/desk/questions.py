@@ -36,7 +36,7 @@ from registry_tools.questions import changes, taken
 from registry_tools.questions.find import Find, accounts_meant, cells_of as cells_of_found, find as found_by
 from registry_tools.questions.history import history
 from registry_tools.second import faults, rules
-from registry_tools.sheets import form
+from registry_tools.cli import form
 from registry_tools.sheets.writing import Written, write_workbook
 from registry_tools.showing import Cell, as_csv, as_json
 from registry_tools.tables import Columns

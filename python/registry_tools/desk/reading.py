@@ -15,7 +15,7 @@ from typing import Any, TypeVar
 
 from registry_tools import voice
 from registry_tools.calendars.dates import date_of
-from registry_tools.errors import FileFault, WordsFault
+from registry_tools.errors import Fault
 from registry_tools.layout import SETTINGS
 from registry_tools.office import approvals, close, composing, folder, handed, trial
 from registry_tools.office.composing import NextDay
@@ -38,7 +38,6 @@ from registry_tools.store.events import LABELLED, Event
 from registry_tools.texts.checks import checks, form_words
 from registry_tools.texts.day_text import DayText
 from registry_tools.texts.labels import Labels
-from registry_tools.texts.report import LogRow
 
 T = TypeVar("T")
 # What takes longer than so many seconds is large.
@@ -116,7 +115,7 @@ class Reading:
 
     def state(self) -> str:
         """What a change builds on; nothing, if the folder cannot be read."""
-        with contextlib.suppress(FileFault, WordsFault, OSError):
+        with contextlib.suppress(Fault, OSError):
             return self.office().state()
         return ""
 

@@ -104,7 +104,7 @@ def approve_command(office: Office, by: By, command: str, date: datetime.date) -
         there = [asked for asked in approvals.all_asked(office) if asked.words == (command, str(date))]
         if not there:
             way = f"{voice.command(command)} asks for it"
-            raise WordsFault(f"nobody asked for {command} of {date} as the folder stands now: {way}")
+            raise WordsFault(f"nobody asked for {command} of {date} as the folder stands now", way)
         asked = there[0]
         must_be_other(office, asked.commands, asked.who, asked.login)
         must_be_same(office, asked)
@@ -119,5 +119,5 @@ def must_be_same(office: Office, asked: Asked) -> None:
         return
     composed = composing.compose(office, approvals.handed_in_of(office).until(asked.date), asked.date)
     if composed.sum() != asked.result:
-        why = f"has changed since it was asked for: {voice.command('close')} asks once more"
-        raise WordsFault(f"what closing {asked.date} gives {why}")
+        way = f"{voice.command('close')} asks once more"
+        raise WordsFault(f"what closing {asked.date} gives has changed since it was asked for", way)

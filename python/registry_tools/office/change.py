@@ -6,7 +6,7 @@ from collections.abc import Iterable, Iterator
 from dataclasses import dataclass, replace
 
 from registry_tools import tables, voice
-from registry_tools.errors import FileFault, WordsFault
+from registry_tools.errors import Fault, WordsFault
 from registry_tools.notes import LOOK, Notes
 from registry_tools.office import approvals, composing, handed
 from registry_tools.pairs import edits, next as next_day
@@ -111,7 +111,7 @@ def look_at_waiting(office: Office, handed_in: HandedIn, part: Part) -> list[str
         return []
     others = [own for own in handed_in.waiting if own.start != part.start]
     # (what keeps it out of the next day is told where that day is made)
-    with contextlib.suppress(WordsFault, FileFault):
+    with contextlib.suppress(Fault):
         date = composing.settlement_date(office, handed_in)
         both = handed_in.until(date), replace(handed_in, waiting=others).until(date)
         before, after = (composing.compose(office, own, date).day() for own in both)

@@ -31,7 +31,7 @@ from registry_tools.texts.day_text import DayText
 from registry_tools.texts.follows import differences_of_totals, must_follow
 from registry_tools.texts.in_words import grouped
 from registry_tools.texts.report import Report, report_of
-from registry_tools.texts.rows import KeptText, rows_of_text
+from registry_tools.texts.rows import rows_of_text
 from registry_tools.texts.runs import unlike
 
 # An instruction that closes an account.
@@ -87,7 +87,7 @@ def close(office: Office, by: By, asked: Close) -> Closed | Doubts | AskedFor:
         handed_in = approvals.handed_in_of(office)
         if asked.date is None:
             comes = composing.settlement_date(office, handed_in)
-            raise WordsFault(f"name the day: {voice.command('close', '--date', comes)} closes the next one")
+            raise WordsFault("name the day", f"{voice.command('close', '--date', comes)} closes the next one")
         with composing.telling_the_way_out():
             left = left_for_later(handed_in, asked.date)
             composed = composing.compose(office, handed_in.until(asked.date), asked.date)
@@ -214,12 +214,11 @@ def is_of_the_rules(day: DayText, report: Report, settled: rules.Day, log: list[
 def file_day(office: Office, settled: Settled, approved: str) -> Event:
     """Files a settled day, in a change of the folder, and answers its event."""
     composed, texts = settled.composed, office.store.texts
-    day, report, waiting = settled.day, settled.report, composed.waiting_text()
-    kept = KeptText(voice.path(f"{office.store.path}/{composed.date}/waiting.csv"), lambda: waiting)
+    day, report = settled.day, settled.report
     event = office.add(
         FILED, date=composed.date, first=day.head.next_record, next=report.next_record, approved=approved,
         engine=settled.engine.row(), text=texts.put(composed.text), report=texts.put(settled.report_text),
-        waiting=texts.put(waiting), waits=texts.put(waits_text(day, report, kept)),
+        waiting=texts.put(composed.waiting_text()), waits=texts.put(waits_text(day, report, composed.pending_file())),
     )  # fmt: skip
     daybook.add_day(office.store.db, settled.past_day, (event.text, event.report))
     return event

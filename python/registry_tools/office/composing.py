@@ -48,9 +48,18 @@ class NextDay:
     # The day before it, if there is one.
     before: tuple[DayText, Report] | None = None
 
+    @property
+    def made(self) -> pending.Made:
+        """With which text its pending file is written: this one."""
+        return pending.Made(self.date, self.first)
+
     def waiting_text(self) -> bytes:
         """The pending file of the day."""
-        return pending.text_of(self.waiting, pending.Made(self.date, self.first)).encode("utf-8", "surrogateescape")
+        return pending.text_of(self.waiting, self.made).encode("utf-8", "surrogateescape")
+
+    def pending_file(self) -> pending.PendingFile:
+        """The same as if it had been read."""
+        return pending.PendingFile(NEXT_DAY, self.made, [(own, line) for line, own in enumerate(self.waiting, 2)])
 
     def sum(self) -> str:
         """The sum of all that it is made of: what comes of it is the same as long as this is."""
@@ -104,9 +113,8 @@ def last_day(office: Office) -> Event:
     """The last day of a folder. Ends the command if no day is settled yet."""
     last = office.last()
     if last is None:
-        raise WordsFault(
-            f"{voice.path(office.path)} has no settled day yet: {voice.command('init')} puts another first text there"
-        )
+        way = f"{voice.command('init')} puts another first text there"
+        raise WordsFault(f"{voice.path(office.path)} has no settled day yet", way)
     return last
 
 

@@ -9,7 +9,7 @@ from dataclasses import dataclass, field
 
 from registry_tools import voice
 from registry_tools.calendars.due_days import NOT_DUE, head_after
-from registry_tools.errors import FileFault, WordsFault
+from registry_tools.errors import Fault, WordsFault
 from registry_tools.notes import LOOK
 from registry_tools.office import approvals, close, composing, hand_in, handed, incoming, people, trial
 from registry_tools.pairs import differing
@@ -82,17 +82,10 @@ class Corrected:
     last: Settled
 
 
-class Behind(Exception):
-    """A day behind the corrected one can't be closed so: which, and why."""
-
-    def __init__(self, date: datetime.date, fault: FileFault | WordsFault) -> None:
-        super().__init__(date, fault)
-        self.date, self.fault = date, fault
-
-
 def correct(office: Office, by: By, asked: Correct) -> Corrected | Shown | tuple[Shown, AskedFor]:
     """Corrects a day, or shows what would become of it and of the days behind it. Raises WordsFault if it was released
-    or if a reversal would name another record, and Behind or a fault if a day can't be closed so."""
+    or if a reversal would name another record, and a fault if a day can't be closed so: `behind` says if it is a later
+    day than the corrected one."""
     if not asked.without and not asked.files:
         raise WordsFault("nothing to correct: --without RECORD or --with FILE says what is wrong")
     with office.changing("correct", by):
@@ -242,9 +235,8 @@ class Correction:
             there = self.handed_again(place, event, reports)
             composed = composing.compose(self.office, there, event.date)
             return close.settle(self.office, composed, self.asked.by_second, self.asked.verifies)
-        except (FileFault, WordsFault) as fault:
-            if event.date != self.asked.date:
-                raise Behind(event.date, fault) from None
+        except Fault as fault:
+            fault.behind = event.date if event.date != self.asked.date else None
             raise
 
     def handed_again(self, place: int, event: Event, reports: Reports | None) -> HandedIn:

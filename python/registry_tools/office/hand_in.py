@@ -57,6 +57,12 @@ def hand_in(office: Office, by: By, asked: HandIn) -> Added:
         return own
 
 
+def look_at(office: Office, by: By, asked: HandIn) -> Added:
+    """What handing in would give, and nothing is handed in. Raises what `hand_in` does."""
+    with office.trying("hand-in", by):
+        return added(office, asked)
+
+
 def added(office: Office, asked: HandIn) -> Added:
     """Hands files in, in a change of the folder."""
     handed_in = approvals.handed_in_of(office)
@@ -109,10 +115,9 @@ class Here:
 
 
 class HadFault(FileFault):
-    """A row or a file that the folder has had before. By `of`, the file as it was given, and `at`, its line, it may
-    come once more."""
+    """The folder has had this row or file before: `of`, the file as it was given, and `at`, its line."""
 
-    code = "had"
+    code, remedy = "had", "leave it out, or name it as meant once more"
     of, at = Given(""), 0
 
 

@@ -9,7 +9,7 @@ one says. The date of such an event is that of an undone day of which it was: it
 import datetime
 from collections.abc import Iterable, Iterator
 from dataclasses import dataclass, field
-from typing import NamedTuple
+from typing import Any, NamedTuple
 
 from registry_tools.office.office import Office
 from registry_tools.store.events import APPROVED, HANDED, NO_DATE, SOURCE, TAKEN, Event
@@ -294,11 +294,11 @@ def part_by(store: Store, event: Event) -> Part:
 
 
 def put(office: Office, there: HandedIn, kind: str, content: bytes, count: int, name: str,
-        originals: Iterable[Original] = ()) -> Part:  # fmt: skip
+        originals: Iterable[Original] = (), **said: Any) -> Part:  # fmt: skip
     """Hands something in, in a change of the file, with what it was made of."""
     store = office.store
     start = 1 if kind == FIRST else there.end
-    event = office.add(HANDED, kind=kind, name=name, start=start, count=count, text=store.texts.put(content))
+    event = office.add(HANDED, kind=kind, name=name, start=start, count=count, text=store.texts.put(content), **said)
     for own in originals:
         text = store.texts.put(own.content)
         office.add(SOURCE, of=event.id, kind=f"{own.what}{own.ending}", name=own.name, text=text)
@@ -311,19 +311,17 @@ def put_again(
     office: Office, there: HandedIn, old: Part, content: bytes, count: int, earliest: datetime.date | None
 ) -> Part:
     """Hands in again what was handed in before: behind a day that was filed or undone."""
-    event = office.add(
-        HANDED, of=old.origin.id, kind=old.kind, name=old.name, start=there.end, count=count,
-        text=office.store.texts.put(content), date=earliest or NO_DATE,
-    )  # fmt: skip
-    part = part_by(office.store, event)
-    there.parts.append(part)
-    return part
+    return put(office, there, old.kind, content, count, old.name, of=old.origin.id, date=earliest or NO_DATE)
 
 
-def put_left(office: Office, there: HandedIn, old: HandedIn, parts: Iterable[Part]) -> None:
-    """Hands in again what was not taken back of these parts."""
+def put_left(
+    office: Office, there: HandedIn, old: HandedIn, parts: Iterable[Part], date: datetime.date | None = None
+) -> None:
+    """Hands in again what was not taken back of these parts, for this date or later, if one is named."""
     for part in parts:
         left = [*old.items_left(part)]
-        if left:
+        if part.kind == FIRST:
+            put_again(office, there, part, office.store.texts.get(part.sum), part.count, date)
+        elif left:
             content = text_of_rows([row for item in left for row in item.rows])
-            put_again(office, there, part, content, len(left), part.earliest)
+            put_again(office, there, part, content, len(left), date or part.earliest)

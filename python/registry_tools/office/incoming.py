@@ -78,9 +78,9 @@ class Incoming:
 
 
 class TableFault(FileFault):
-    """All that is wrong with the cells of a table, and what did not come of it."""
+    """Cells of a table are wrong: its `parts()` are a fault of a file for each of them."""
 
-    code = "table"
+    code, remedy = "table", "mend these cells"
 
     def __init__(self, path: str, wrong: list[FileFault], end: str = "nothing was handed in") -> None:
         super().__init__(path, 0, "", "", "")

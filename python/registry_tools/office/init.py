@@ -83,11 +83,11 @@ def change_first(office: Office, asked: Init, by: By) -> DayText:
             path = office.path
             raise FileFault(path, 0, "", "a folder with settled days", "a folder without settled days, or a new one")
         if asked.program or asked.makes_statements or asked.makes_pages:
-            raise WordsFault(f"{office.path} is there: change its {SETTINGS} with an editor")
+            raise WordsFault(f"{office.path} is there", f"change its {SETTINGS} with an editor")
         must_need_no_second(office, first)
         old = approvals.handed_in_of(office)
         if any(True for _ in old.items(*(kind for kind in handed.KINDS if kind != FIRST))):
-            raise WordsFault(f"take back first what was handed in: {voice.command('status')} shows it")
+            raise WordsFault("take back first what was handed in", f"{voice.command('status')} shows it")
         put_first(office, old, first, asked.first)
     return first
 
@@ -106,4 +106,4 @@ def must_need_no_second(office: Office, first: DayText) -> None:
         people.must_be_allowed(office.people, office.login, command)
         if approvals.waits(office, command):
             out = f"take {command} out of [{people.FOUR_EYES}] of {SETTINGS} until then, or make a new folder"
-            raise WordsFault(f"{command} waits for another login, and a first text cannot: {out}")
+            raise WordsFault(f"{command} waits for another login, and a first text cannot", out)

@@ -6,7 +6,7 @@ from dataclasses import dataclass
 from pathlib import Path
 from typing import Any
 
-from registry_tools.errors import FileFault, LateFault, WordsFault, shown
+from registry_tools.errors import Fault, LateFault, WordsFault, shown
 from registry_tools.office import people
 from registry_tools.office.people import People
 from registry_tools.office.settings import Settings
@@ -35,6 +35,12 @@ class By:
     who: str
     seen: str | None = None
     shown: str | None = None
+
+
+def by_of(known: People, who: str, whom: str | None = None, seen: str | None = None) -> By:
+    """By whom something is done, of the people that a folder knows: by the login of the process, or the one for which
+    it may speak. Raises WordsFault."""
+    return By(people.login_for(known, whom), people.one_line("who", who), seen)
 
 
 @dataclass
@@ -90,7 +96,7 @@ class Office:
             self.let_in(command, by)
             try:
                 yield
-            except (FileFault, WordsFault) as fault:
+            except Fault as fault:
                 # (what others did in between may be why)
                 raise fault if self.late in (CAME_LATE, str(fault)) else LateFault(f"{self.late}; {fault}") from None
 

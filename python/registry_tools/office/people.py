@@ -149,6 +149,13 @@ def login_for(people: People, whom: str | None) -> str:
     return f"{own}{SPEAKS_FOR}{whom}"
 
 
+def one_line(name: str, word: str) -> str:
+    """A word that is kept in a line of what was done. Raises WordsFault if it can't be."""
+    if not word.strip() or any(not letter.isprintable() for letter in word):
+        raise WordsFault(f"{voice.option(name)} has to be some words in one line")
+    return word
+
+
 def must_be_allowed(people: People, login: str, command: str) -> None:
     """Ends the command if office.ini names people, and this login is nobody's who may give it."""
     if people.may(login, command):

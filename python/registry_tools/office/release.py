@@ -94,5 +94,5 @@ def day_to_release(office: Office, date: datetime.date | None) -> Event:
     if office.events.is_released(named):
         raise WordsFault(f"{named.date} was released before")
     if date is None:
-        raise WordsFault(f"name the day: {voice.command('release', last.date)} releases the last one")
+        raise WordsFault("name the day", f"{voice.command('release', last.date)} releases the last one")
     return named

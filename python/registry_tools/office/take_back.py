@@ -43,10 +43,11 @@ def chosen(handed_in: HandedIn, asked: TakeBack) -> list[Item]:
     first = [place for place in named if there[place].part.kind == FIRST]
     if first and asked.places:
         way = f"{voice.command('init')} puts in another text"
-        raise WordsFault(f"place {first[0]} is an instruction of the first text: {way}")
+        raise WordsFault(f"place {first[0]} is an instruction of the first text", way)
     found = [there[place] for place in named if place not in first and there[place].part in parts]
     if not found:
-        raise WordsFault(f"nothing is left of what the words name: {voice.command('status')} shows what is handed in")
+        way = f"{voice.command('status')} shows what is handed in"
+        raise WordsFault("nothing is left of what the words name", way)
     return found
 
 

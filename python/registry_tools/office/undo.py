@@ -7,12 +7,11 @@ from registry_tools import voice
 from registry_tools.errors import WordsFault
 from registry_tools.office import approvals, handed, trial
 from registry_tools.office.approvals import AskedFor
-from registry_tools.office.handed import FIRST, HandedIn
+from registry_tools.office.handed import HandedIn
 from registry_tools.office.office import By, Office
 from registry_tools.office.waits import waits_of
 from registry_tools.store import daybook
 from registry_tools.store.events import UNDONE, Event
-from registry_tools.texts.rows import text_of_rows
 
 
 @dataclass(frozen=True)
@@ -64,9 +63,9 @@ def last_of(office: Office, named: datetime.date | None) -> Event:
         raise WordsFault(f"{voice.path(office.path)} has no settled day")
     if office.events.is_released():
         corrects = "enter an instruction that corrects what was done"
-        raise WordsFault(f"{last.date} was released, and is not undone: {corrects}")
+        raise WordsFault(f"{last.date} was released, and is not undone", corrects)
     if named is None:
-        raise WordsFault(f"name the day: {voice.command('undo', last.date)} takes back the last one")
+        raise WordsFault("name the day", f"{voice.command('undo', last.date)} takes back the last one")
     if named != last.date:
         raise WordsFault(f"{named} is not the last day, and only {last.date}, which is, can be undone")
     return last
@@ -91,19 +90,7 @@ def taken_back(office: Office, last: Event, again: datetime.date, why: str, appr
     daybook.remove_day(office.store.db, last.date)
     trial.forget(office)
     there = HandedIn(office.store)
-    hand_in_again(office, there, filed, again)
+    handed.put_left(office, there, filed, filed.parts, again)
     end = there.end
     handed.put_left(office, there, since, since.parts)
     return end
-
-
-def hand_in_again(office: Office, there: HandedIn, filed: HandedIn, date: datetime.date) -> None:
-    """Hands in again what an undone day was made of: what was not taken back, for this date or later."""
-    for part in filed.parts:
-        if part.kind == FIRST:
-            handed.put_again(office, there, part, office.store.texts.get(part.sum), part.count, date)
-            continue
-        left = [*filed.items_left(part)]
-        if left:
-            content = text_of_rows([row for item in left for row in item.rows])
-            handed.put_again(office, there, part, content, len(left), date)

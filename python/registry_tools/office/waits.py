@@ -30,10 +30,10 @@ def waiting_behind(office: Office, date: datetime.date) -> list[pending.Waiting]
     return [own for own, _ in pending.read_pending(path).rows]
 
 
-def waits_text(day: DayText, report: Report, waits: str) -> bytes:
-    """What waits behind a day, with the due days by the calendar and the accounts after the day. `waits` is the pending
+def waits_text(day: DayText, report: Report, file: pending.PendingFile) -> bytes:
+    """What waits behind a day, with the due days by the calendar and the accounts after the day. `file` is the pending
     file of the day."""
-    waiting = next_day.waiting_after(day, report, pending.read_pending(waits), datetime.date.max, Notes())
+    waiting = next_day.waiting_after(day, report, file, datetime.date.max, Notes())
     head = head_after(day, report)
     for own in waiting:
         own.due, own.entered = due_day_after(head, own.instruction), None

@@ -26,6 +26,7 @@ from registry_tools.questions.seams import Filed, compare_texts, look_at_day, pa
 from registry_tools.store import copies, daybook, events, file
 from registry_tools.store.events import APPROVED, ASKED, HANDED, LABELLED, NO_DATE, SOURCE, TAKEN, UPGRADED, Event
 from registry_tools.store.file import Store
+from registry_tools.texts.pending import read_pending
 from registry_tools.texts.rows import KeptText, rows_of_text, sum_of, text_of_rows
 
 # How gzip begins what it packs without a name and a time, and how much stands behind it: the sum and the size.
@@ -168,7 +169,7 @@ class Making:
     def waits(self, old: journal.Event, read: Filed) -> str:
         """The sum of what waits behind a day; of the last one the folder has it already."""
         event, day, report = read
-        text = waits_text(day, report, self.found.text_of(event, "waiting"))
+        text = waits_text(day, report, read_pending(self.found.text_of(event, "waiting")))
         if old is self.folder.journal.filed()[-1]:
             path = faults.waits_path(self.folder)
             compare_texts(self.found, path, bytes_in(path), text, f"the day {old.date}", faults.waits_back())

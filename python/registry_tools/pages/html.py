@@ -76,11 +76,6 @@ def paragraph(*children: object, **attributes: object) -> Markup:
     return tag("p", *children, **attributes)
 
 
-def items(rows: Iterable[object]) -> Markup:
-    """A list of points."""
-    return tag("ul", *(tag("li", row) for row in rows))
-
-
 def facts(pairs: Iterable[tuple[object, object]]) -> Markup:
     """Names and what they are, a line each. Pairs without a value are left out."""
     shown = (tag("div", tag("dt", name), tag("dd", value)) for name, value in pairs if value not in (None, ""))

@@ -3,7 +3,7 @@ then, who is compliant, and what waits."""
 import itertools
 from typing import Iterator
 
-from registry_tools.errors import FileFault, WordsFault
+from registry_tools.errors import Fault
 from registry_tools.notes import first_of
 from registry_tools.calendars.due_days import NOT_DUE
 from registry_tools.pairs.compliance import last_year_over, standings
@@ -130,7 +130,7 @@ def verdicts(day: DayText, report: Report) -> dict[int, str]:
     try:
         year = last_year_over(day.head)
         return {own.account.number: f"{own.verdict_in_words} for {year}" for own in standings(day, report, year)}
-    except (WordsFault, FileFault):
+    except Fault:
         return {}
 
 

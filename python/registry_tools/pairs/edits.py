@@ -49,8 +49,9 @@ class Edit(NamedTuple):
 
 
 class EditFault(WordsFault):
-    """A difference cannot be laid over what is there: which, why, and the place at which it was handed in, if it
-    was."""
+    """A change by hand cannot be laid over what is there: the `edit`, and `why`."""
+
+    code, remedy = "edit", "take it back, if it was handed in, or change something else"
 
     def __init__(self, edit: Edit, why: str, place: int | None = None) -> None:
         back = f"{voice.command('take-back', place)} takes it back"
@@ -59,13 +60,13 @@ class EditFault(WordsFault):
 
 
 def edit_of(row: str) -> Edit:
-    """The difference that a row says."""
+    """The difference that a row says. Raises WordsFault if it says none."""
     what, *words = row.split(",")
     if what == ACCOUNT and len(words) >= 3 and words[1] in (OPEN, PUT, ADD, DROP):
         return Edit(account_number(words[0]), words[1], tuple(words[2:]))
     if what == RULES and len(words) >= 2 and words[0] in (PUT, ADD, DROP):
         return Edit(0, words[0], tuple(words[1:]))
-    raise WordsFault(f"{row} is no change by hand: see {voice.command('change', '--help')}")
+    raise WordsFault(f"{row} is no change by hand", f"see {voice.command('change', '--help')}")
 
 
 def account_number(word: str) -> int:

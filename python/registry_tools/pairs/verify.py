@@ -9,7 +9,6 @@ from registry_tools.errors import FileFault, of_file, shown
 from registry_tools.progress import progress
 from registry_tools.second import rules
 from registry_tools.texts.day_text import DayText, read_day
-from registry_tools.texts.report import Report
 from registry_tools.texts.rows import Rows, bytes_of, rows_of
 
 @dataclass(frozen=True)

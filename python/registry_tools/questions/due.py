@@ -5,7 +5,7 @@ import datetime
 from collections import Counter
 from typing import Iterator, NamedTuple
 
-from registry_tools import tables, voice
+from registry_tools import voice
 from registry_tools.calendars.deadlines import DueDates
 from registry_tools.calendars.due_days import head_after
 from registry_tools.calendars.ics import calendar_of
@@ -22,7 +22,6 @@ from registry_tools.texts.day_text import DayText
 from registry_tools.texts.in_words import grouped, instruction_in_words
 from registry_tools.texts.report import Report
 
-COLUMNS = tables.COLUMNS["due"]
 DEADLINE, OVERDUE, REVERSAL, LIST = "deadline", "overdue", "reversal ends", "list takes effect"
 WAITING, MISSED, CALENDAR = "waiting", "working day", "calendar ends"
 # A year has deadlines in the next one: so those of these years, counted back from the last day, may still come.
@@ -63,7 +62,8 @@ def folded(found: list[Due]) -> list[Due]:
 
 
 def due_until(office: Office, until: datetime.date) -> list[Due]:
-    """All that is due from the last settled day up to a date, by rising date."""
+    """All that is due from the last settled day up to a date, by rising date. Raises WordsFault if no day is settled,
+    and FileFault if a text of it can't be read."""
     day, report = composing.last_pair(office)
     names = office.names()
     known = deadlines(office.settings.due, day, report, names), of_rows(day, report, names), waiting(office, names)

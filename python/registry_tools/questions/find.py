@@ -30,7 +30,7 @@ class Find:
 
 
 def find(days: Days, asked: Find) -> list[LogRow]:
-    """The log rows that are looked for, by rising record."""
+    """The log rows that are looked for, by rising record. Raises FileFault if a report can't be read that has one."""
     where = {
         NAMING: asked.account is not None, HOLDER_HAS: asked.holder is not None, OF_USER: asked.user is not None,
         "i.act = :act": asked.act is not None, "NOT log.is_done": asked.is_refused,

@@ -12,7 +12,8 @@ from registry_tools.texts.report import LogRow
 
 
 def history(days: Days, account: int, name_of: Callable[[object], str] = str) -> list[list[Cell]]:
-    """The rows of an account, the changes of each day before its instructions. `name_of` tells accounts in words."""
+    """The rows of an account, the changes of each day before its instructions; none, if there is no such account.
+    `name_of` tells accounts in words. Raises FileFault if a report can't be read that names it."""
     rows = [*first_row(days, account), *hand_rows(days, account)]
     for own in logged(days, [NAMING], {"account": account}):
         rows += cells_of(own, account, name_of)

@@ -16,12 +16,13 @@ from registry_tools.pairs import settling
 from registry_tools.office.office import Office
 from registry_tools.office.program import named_program
 from registry_tools.office.waits import waits_text
-from registry_tools.store import checks, events, file
+from registry_tools.store import checks, file
 from registry_tools.store.events import Event
 from registry_tools.store.past import PastDay
 from registry_tools.store.texts import put_back
 from registry_tools.texts.day_text import DayText, read_day
 from registry_tools.texts.follows import differences
+from registry_tools.texts.pending import read_pending
 from registry_tools.texts.report import Report, read_report
 from registry_tools.texts.rows import KeptText, bytes_of, text_of_rows
 
@@ -159,7 +160,7 @@ def look_at_seam(found: Found, event: Event, day: DayText, report: Report, befor
     compare_texts(found, waiting, bytes_of(waiting), made.waiting_text(), "what was handed in", mend)
     if event.waits:
         behind = found.text_of(event, "waits")
-        compare_texts(found, behind, bytes_of(behind), waits_text(day, report, waiting), f"the day {event.date}", mend)
+        compare_texts(found, behind, bytes_of(behind), waits_text(day, report, read_pending(waiting)), f"the day {event.date}", mend)
 
 
 def later_again(found: Found, event: Event, given: Given, before: Filed | None) -> composing.NextDay:

@@ -60,7 +60,8 @@ class Status:
 
 
 def status(office: Office) -> Status:
-    """How a folder stands."""
+    """How a folder stands. What is wrong with the texts of the last day is in it. Raises FileFault if what was handed in
+    can't be read."""
     return Status(office, approvals.handed_in_of(office), [*faults_of_last(office)])
 
 

@@ -15,7 +15,6 @@ from dataclasses import dataclass
 
 from registry_tools.errors import WordsFault
 from registry_tools.office import handed
-from registry_tools.texts import labels
 from registry_tools.office.handed import HandedIn
 from registry_tools.office.office import Office
 from registry_tools.output import NewFolder

@@ -98,7 +98,7 @@ class Labels:
         found = self.of_words(word, *kinds)
         if not found:
             what = " or ".join(kinds or KINDS)
-            raise WordsFault(f"{shown(word)} names no {what}: {voice.command('label')} lists the names")
+            raise WordsFault(f"{shown(word)} names no {what}", f"{voice.command('label')} lists the names")
         if len(found) > 1:
             several = "; ".join(map(str, found))
             raise WordsFault(f"{shown(word)} may be {several}: say more of the name, or the number")

@@ -33,7 +33,7 @@ pub(crate) fn cut_lists(
 }
 
 /// The same accounts, in their order, in as many lists or fewer: `joins` has for each list the number, counted from 0,
-/// of that which it becomes a part of. These numbers rise by 0 or 1. If there are none, all become one list.
+/// of that which it becomes a part of. These numbers rise by 0 or 1.
 ///
 /// # Errors
 /// `NoMemory` if memory ran out. The accounts are dropped then.
@@ -57,6 +57,27 @@ pub(crate) fn join_lists(
         index = index.saturating_add(1);
     }
     Ok(joined)
+}
+
+/// The same accounts, in their order, in one list. The first list takes up the others, so each account moves once at
+/// most.
+///
+/// # Errors
+/// `NoMemory` if memory ran out. The accounts are dropped then.
+pub(crate) fn join_all(alloc: Global, lists: Vec<Vec<Account>>) -> Result<Vec<Account>, NoMemory>
+    ensures { IfOk result (λ all. all.items ≡ joined_lists lists.items) }
+{
+    let count = count_accounts(&lists);
+    let mut lists = lists.into_iter();
+    let Some(first) = lists.next() else {
+        return Ok(Vec::new(alloc));
+    };
+    let mut all = reserved(first, short(count))?;
+    for list in lists {
+        let mut list = list;
+        all.append(&mut list)?;
+    }
+    Ok(all)
 }
 
 // How many accounts come together in each list.

@@ -61,16 +61,14 @@ pub(crate) fn make_regions<C: Cutting>(
     requires openings { C.openings ≡ region_openings lists.items }
     requires deals { C.deals ≡ deals.items }
     requires few { vec_len lists < 2 ^ 32 }
+    requires one_each { vec_len deals ≡ vec_len lists }
     ensures { IfOk result (λ regions. map (λ r. r.number) regions.items ≡ count_up 1 (vec_len lists)) }
 {
     let mut regions = Vec::with_capacity(alloc, lists.len())?;
     let mut number: u32 = 0;
     let mut deals = deals.into_iter();
     for accounts in lists {
-        // Each list has one, so this never comes.
-        let Some(deal) = deals.next() else {
-            return Err(NoMemory);
-        };
+        let deal = deals.next().unwrap();
         number += 1;
         regions.push(ListRegion {
             number,

@@ -14,7 +14,7 @@ ghost use Rattle.reg_regions.specs.Lists.{joined_lists};
 ghost use Rattle.reg_regions.specs.Stealing.{AreNotesOf};
 ghost use Rattle.reg_regions.specs.Working.{WereSettledBy};
 
-use crate::advice::lists::join_lists;
+use crate::advice::lists::join_all;
 use crate::dealing::Deal;
 use crate::gate::PlaceGate;
 use crate::running::shift::Notes;
@@ -51,8 +51,7 @@ pub(crate) fn settle_whole<N: Notes + Send, R: Threads + Sync, G: PlaceGate + Sy
         (λ s. AreNotesOf N.worker N.keeps N.places workers (length batch.now.instructions) s.notes.items) }
     ensures worked { IfOk result (λ s. WereSettledBy batch.now workers) }
 {
-    let joined = join_lists(alloc, lists, &[])?;
-    let accounts = only_list(alloc, joined)?;
+    let accounts = join_all(alloc, lists)?;
     let deal = deal_whole(alloc, setting, batch, &accounts)?;
     let deals = alone(alloc, deal)?;
     let lists = alone(alloc, accounts)?;
@@ -76,21 +75,6 @@ fn deal_whole(
     let indexes = all_indexes(alloc, accounts, batch.instructions())?;
     let deal = Deal::of_all(alloc, batch.len(), indexes)?;
     Ok(deal)
-}
-
-// The one list that there is, or one without accounts if there is none.
-fn only_list(alloc: Global, lists: Vec<Vec<Account>>) -> Result<Vec<Account>, NoMemory>
-    ensures { IfOk result (λ all. all.items ≡ joined_lists lists.items) }
-{
-    let mut lists = lists;
-    let Some(list) = lists.pop() else {
-        return Ok(Vec::new(alloc));
-    };
-    // (all lists were joined to one, so this never comes)
-    if !lists.is_empty() {
-        return Err(NoMemory);
-    }
-    Ok(list)
 }
 
 // A list of this one alone.

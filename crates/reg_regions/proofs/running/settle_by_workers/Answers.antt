@@ -26,6 +26,15 @@ run-requires-clause-numbers g c κs within =
     subst (λ ns. IsPermutation ns (map (λ r. r.number) sorted)) (c.in_ok-regions.ensures ∙ ap (count_up 1) (sym len))
     (IsPermutation-map (λ r. r.number) regions sorted c.heaviest_first.ensures)
 
+pub make_regions-requires-clause-one_each : goal.make_regions-requires-clause-one_each
+make_regions-requires-clause-one_each g c =
+    let lists = c.args.lists.items in
+    let openings = ap length c.requires.openings in
+    let deals = ap length c.requires.deals in
+    let many = length-map lists (λ l. l.items) in
+    let same = c.requires.ground.as_many in
+    omega (arith, openings, deals, many, same, c.args.lists.ok.0, c.args.deals.ok.0)
+
 pub with_idle-requires-clause-busy : goal.with_idle-requires-clause-busy
 with_idle-requires-clause-busy g c =
     let ran = c.in_ok-ended.ensures.ran in

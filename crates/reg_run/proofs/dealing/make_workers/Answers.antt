@@ -71,6 +71,7 @@ loop-pass-preserved g c =
       table = c.split-kept.ensures.same.0 ∙ i.table;
       stake = omega arith;
       idle = ap (λ (v : SeatView). v.finished) first ∙ i.idle;
+      unseen = ap (λ (v : SeatView). v.seen) first ∙ i.unseen;
       whole = omega arith;
       as_many = omega (arith, left, others_left, many);
       deques = All-tail (λ p. deques_of_pass p ≡ deques) pass behind

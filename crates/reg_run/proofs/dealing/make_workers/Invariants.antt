@@ -14,6 +14,7 @@ invariant-loop-pass g l = record {
   table : seat_table l.rest ≡ g.S.Sharing.table;
   stake : (known l.rest).stake + vec_len l.workers ≡ 16;
   idle : (known l.rest).finished ≡ [];
+  unseen : (known l.rest).seen ≡ (known l.fn.seat).seen;
   whole : vec_len l.workers + length l.pass-iterator.rest.items ≡ vec_len l.fn.passes;
   as_many : length l.owners.rest.items ≡ length l.pass-iterator.rest.items;
   deques : All (λ p. deques_of_pass p ≡ g.S.Sharing.deques) l.pass-iterator.rest.items;

@@ -26,7 +26,7 @@ loop-ended_worker-preserved g c =
       ends = record {};
       table = c.join-rest.ensures.same ∙ i.table;
       stake = omega arith;
-      seen = inr (rw view (joined-sees g.I.SharedIds.count _ (known c.loop-ended_worker.rest)
+      seen = inr (rw view (joined-sees g.S.Sharing.count _ (known c.loop-ended_worker.rest)
           (known worker.seat) i.seen c.in-Some.ended_worker.over));
       times = λ p.
           ap (λ (v : SeatView). times p v.finished) view
@@ -61,10 +61,10 @@ returns g c =
     let none : c.loop-ended_worker.ended_worker-iterator.rest.items ≡ [] =
     nil_from_length _ (sym c.loop-ended_worker.ended_worker-iterator.rest.ok.0 ∙ c.in-None.ensures.steps.0) in
     let all = c.close-tally.ensures in
-    let ends = was-there g.I.SharedIds.count _ _ (known c.loop-ended_worker.rest)
+    let ends = was-there g.S.Sharing.count _ _ (known c.loop-ended_worker.rest)
     (ap length none) c.requires.some i.seen in
     let places_are = c.requires.table.1 in
-    let whole = all-finished g.I.SharedIds.count (known c.loop-ended_worker.rest) c.close-tally.result.done
+    let whole = all-finished g.S.Sharing.count (known c.loop-ended_worker.rest) c.close-tally.result.done
     c.close-tally.result.stopped ends all.stopped c.if-tally.false all.seen (let most = all.most in omega arith)
     ∙ sym places_are in
     record {

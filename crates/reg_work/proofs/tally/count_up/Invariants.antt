@@ -13,10 +13,10 @@ abbrev pub invariant-loop-ended_worker : goal.invariant-loop-ended_worker
 invariant-loop-ended_worker g l = record {
   can_go : (goal.iterator-loop-ended_worker g).can_next l.ended_worker-iterator;
   ends : (goal.iterator-loop-ended_worker g).is_finite l.ended_worker-iterator;
-  table : seat_table l.rest ≡ g.I.SharedIds.table;
+  table : seat_table l.rest ≡ g.S.Sharing.table;
   stake : (known l.rest).stake + length l.ended_worker-iterator.rest.items ≡ 16;
   seen : ((length l.ended_worker-iterator.rest.items ≡ vec_len l.fn.ended_workers) × ((known l.rest).seen ≡ 0))
-      ⊎ (sees_end g.I.SharedIds.count (known l.rest) ≡ true);
+      ⊎ (sees_end g.S.Sharing.count (known l.rest) ≡ true);
   rows : (p : ℕ) → times p (known l.rest).finished ≡ times p (places_of l.work.done.items);
   times : (p : ℕ) → times p (known l.rest).finished ≡ times_in p l.work.shifts.items;
   workers : workers_of l.work.shifts.items ++ ended_numbers l.ended_worker-iterator.rest.items

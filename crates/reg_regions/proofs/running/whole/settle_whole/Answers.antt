@@ -30,8 +30,7 @@ settle_lists-requires-clause-each_once g c κs within =
 pub returns-clause-turned : goal.returns-clause-turned
 returns-clause-turned g c =
     let same : joined_lists c.in_ok-lists.lists.items ≡ joined_lists c.args.lists.items =
-    ap joined_lists c.in_ok-lists.ensures ∙ append-nil c.in_ok-accounts.accounts.items ∙ c.in_ok-accounts.ensures
-    ∙ c.in_ok-joined.ensures in
+    ap joined_lists c.in_ok-lists.ensures ∙ append-nil c.in_ok-accounts.accounts.items ∙ c.in_ok-accounts.ensures in
     whole-turned c.args.setting.now c.args.batch.now c.settle_lists.result (λ s. joined_lists s.lists.items)
     (λ s. s.replies.items) (joined_lists c.args.lists.items) (joined_lists c.in_ok-lists.lists.items) same
     c.settle_lists.ensures.settled

@@ -1,5 +1,5 @@
 use Rattle.reg_work.specs.Frames.{OwnerAlone}
-use Rattle.reg_work.proofs.worker.Worker+Task+N+N+I.open_next.Given as goal
+use Rattle.reg_work.proofs.worker.Worker+Task+N+N+S.open_next.Given as goal
 
 abbrev pub invariant-loop-before : goal.invariant-loop-before
 invariant-loop-before g l = record {

@@ -11,13 +11,14 @@ import time
 from pathlib import Path
 from typing import Iterator
 
-from registry_tools import parsers, streams, tables
+from registry_tools import streams, tables
+from registry_tools.cli import parsers
 from registry_tools.errors import WordsFault
 
 EXAMPLE = "./day man > out/day.1\n  ./day man close > out/day-close.1\n  ./day man run > out/run.1"
 
 DAY, RUN = "day", "run"
-SCRIPT = Path(__file__).resolve().parents[2] / RUN
+SCRIPT = Path(__file__).resolve().parents[3] / RUN
 # The columns of a line of text: man lays it out anew.
 COLUMNS = 76
 # A paragraph of a help that tells exit statuses.

@@ -5,7 +5,7 @@ It is made of the same parsers that read the words.
 import argparse
 import sys
 
-from registry_tools import parsers
+from registry_tools.cli import parsers
 
 EXAMPLE = "source <(./day completion bash)"
 SHELLS = ("bash", "zsh")

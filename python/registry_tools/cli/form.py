@@ -14,7 +14,7 @@ from registry_tools import showing
 from registry_tools.errors import WordsFault
 from registry_tools.texts.labels import COLUMNS as LABEL_COLUMNS
 from registry_tools.texts.labels import KINDS as LABEL_KINDS
-from registry_tools.options import add_to
+from registry_tools.cli.options import add_to
 from registry_tools.output import write_answer
 from registry_tools.second import faults
 from registry_tools.sheets import columns, writing

@@ -1,7 +1,7 @@
 use Rattle.std.specs.Option.{option_map}
 use Rattle.std.proofs.lemmas.Result.{on_ok_weaker}
 use Rattle.reg_tasks.specs.Tasks.{task_of}
-use Rattle.reg_work.proofs.worker.Worker+Task+N+N+I.deliver.Goals as goal
+use Rattle.reg_work.proofs.worker.Worker+Task+N+N+S.deliver.Goals as goal
 
 pub returns-in-Ok-clause-delivered : goal.returns-in-Ok-clause-delivered
 returns-in-Ok-clause-delivered g c =

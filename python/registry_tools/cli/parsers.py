@@ -4,7 +4,7 @@ import argparse
 from pathlib import Path
 
 # Where the help of the program and of its commands is stored.
-STORED = Path(__file__).resolve().parents[2] / "cases" / "program"
+STORED = Path(__file__).resolve().parents[3] / "cases" / "program"
 # The commands of the program, and the long options of each.
 OF_PROGRAM = {
     "settle": ["--workers", "--help"], "plan": ["--help"], "statement": ["--help"], "figures": ["--help"],
@@ -20,14 +20,14 @@ OF_SCRIPT: dict[str, list[str]] = {"--prove": [], "--version": []}
 
 def descriptions() -> dict[str, str]:
     """What each command does, by its name."""
-    from registry_tools import main
+    from registry_tools.cli import main
 
     return {**main.COMMANDS, **main.OFFICE_COMMANDS}
 
 
 def all_of_day() -> dict[str, argparse.ArgumentParser]:
     """The parser of each command, by its name."""
-    from registry_tools import main
+    from registry_tools.cli import main
 
     return {name: main.parser_of(name, main.module_of(name)) for name in descriptions()}
 

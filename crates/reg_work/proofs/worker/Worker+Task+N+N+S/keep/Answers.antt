@@ -1,7 +1,7 @@
 use Rattle.std.proofs.Common.{◌∷◌, ◌++◌, [], ap, ◌∙◌}
 use Rattle.std.proofs.lemmas.List.{map-append}
 use Rattle.reg_tasks.specs.LastParcels.{parcels_in}
-use Rattle.reg_work.proofs.worker.Worker+Task+N+N+I.keep.Goals as goal
+use Rattle.reg_work.proofs.worker.Worker+Task+N+N+S.keep.Goals as goal
 
 pub returns-clause-kept : goal.returns-clause-kept
 returns-clause-kept g c =

@@ -1,0 +1,185 @@
+"""Tries the package registry_office, by which programs of others use a folder of days: what it names, what it says of
+each name, and that a call ends nothing and holds back no signal."""
+from __future__ import annotations
+
+import ast
+import datetime
+import inspect
+import os
+import signal
+import subprocess
+import sys
+from collections.abc import Callable, Iterator
+from pathlib import Path
+
+import pytest
+
+import registry_office as office
+from harness import PYTHON, TOP, Word, answer_of
+from offices import FIRST, changed, content_of
+
+DATE = datetime.date(2025, 3, 31)
+FUNCTIONS = [name for name in office.__all__ if inspect.isfunction(getattr(office, name))]
+CLASSES = [name for name in office.__all__ if inspect.isclass(getattr(office, name))]
+TOLD = """\
+2025-09-22: done 4, refused Counter({'KindNotAllowed': 1}), waiting 2
+2025-09-23: done 5, refused Counter({'UnknownAccount': 1}), waiting 1
+words: 2025-09-22 is not the last day, and only 2025-09-23, which is, can be undone
+2025-09-23 100210 general 200 158700 0
+2025-09-23 100210 aviation 0 0 0
+differences: 0
+"""
+
+
+@pytest.fixture
+def folder(tmp_path: Path) -> Iterator[office.Office]:
+    """A folder of days with its first text, which is not settled."""
+    office.make_folder(office.Init(tmp_path / "office", str(FIRST)), "ana")
+    with office.open_folder(tmp_path / "office") as opened:
+        yield opened
+
+
+def closed(folder: office.Office, **more: bool) -> office.Closed | office.Doubts | office.AskedFor:
+    return office.close(folder, office.caller(folder, "ana"), office.Close(DATE, by_second=True, **more))
+
+
+def test_example_runs(tmp_path: Path) -> None:
+    """As a program of somebody else: it finds the packages, and no cases."""
+    command: list[Word] = [sys.executable, "-B", TOP / "examples/python/office.py", tmp_path / "office"]
+    assert answer_of(command, cwd=TOP, env={**os.environ, "PYTHONPATH": str(PYTHON)}) == (TOLD.encode(), b"", 0)
+
+
+def test_all_is_what_it_names() -> None:
+    tree = ast.parse(Path(str(office.__file__)).read_text("utf-8"))
+    given = {alias.asname or alias.name for node in tree.body if isinstance(node, ast.ImportFrom)
+             for alias in node.names if (node.module or "").startswith("registry_tools")}  # fmt: skip
+    made = {node.name for node in tree.body if isinstance(node, ast.FunctionDef)}
+    inside = {"SETTINGS", "People", "at_one_moment", "by_of", "copies", "folder", "opening", "progress"}
+    assert sorted((given | made) - inside) == sorted(office.__all__)
+
+
+@pytest.mark.parametrize("name", FUNCTIONS)
+def test_each_function_says_what_it_raises_and_has_types(name: str) -> None:
+    function = getattr(office, name)
+    signature = inspect.signature(function)
+    untyped = [each for each, own in signature.parameters.items() if own.annotation is own.empty]
+    assert "Raises" in (function.__doc__ or ""), f"{name} does not say what it raises"
+    assert not untyped and signature.return_annotation is not signature.empty
+
+
+@pytest.mark.parametrize("name", CLASSES)
+def test_each_class_says_what_it_is(name: str) -> None:
+    assert (getattr(office, name).__doc__ or "").strip()
+
+
+def test_values_cannot_be_changed_behind_what_was_asked() -> None:
+    asked = office.Close(DATE)
+    with pytest.raises(AttributeError):
+        asked.date = None  # type: ignore[misc]
+
+
+def test_nothing_is_printed_and_day_is_filed(folder: office.Office, capfd: pytest.CaptureFixture[str]) -> None:
+    came = closed(folder)
+    assert isinstance(came, office.Closed) and came.outcome.done == 1
+    assert capfd.readouterr() == ("", "") and [own.date for own in folder.events.days] == [DATE]
+
+
+def test_signals_come_again_behind_a_change(folder: office.Office) -> None:
+    """A command holds them back until its end; a program goes on."""
+    before = signal.pthread_sigmask(signal.SIG_BLOCK, ())
+    closed(folder)
+    assert signal.pthread_sigmask(signal.SIG_BLOCK, ()) == before
+
+
+Asking = Callable[[], object]
+
+
+def no_such_folder(folder: office.Office) -> Asking:
+    return lambda: office.open_folder(folder.path / "none")
+
+
+def another_day(folder: office.Office) -> Asking:
+    return lambda: office.close(folder, office.caller(folder, "ana"), office.Close(datetime.date(2025, 4, 1)))
+
+
+def too_late(folder: office.Office) -> Asking:
+    ben = office.caller(folder, "ben", folder.state())
+    closed(folder)
+    return lambda: office.undo(folder, ben, office.Undo(DATE, "a slip"))
+
+
+def handing_in(folder: office.Office, giver: str) -> Asking:
+    row = folder.path.with_name("row.csv")
+    row.write_text(f"do,2025-03-31,101,102,transfer,{giver},2,general,40\n")
+    return lambda: office.hand_in(folder, office.caller(folder, "ben"), office.HandIn((office.Given(str(row)),)))
+
+
+def twice(folder: office.Office) -> Asking:
+    closed(folder)
+    return handing_in(folder, "1")
+
+
+def no_row(folder: office.Office) -> Asking:
+    return handing_in(folder, "x")
+
+
+def no_name(folder: office.Office) -> Asking:
+    return lambda: office.caller(folder, "ana\nben")
+
+
+@pytest.mark.parametrize(
+    "ask, code, says",
+    [
+        (no_such_folder, "file", "no such file"), (another_day, "words", "2025-03-31"), (too_late, "late", "changed"),
+        (twice, "had", "2025-03-31 has done"), (no_row, "row", "found 'x'"), (no_name, "words", "in one line"),
+    ],
+)  # fmt: skip
+def test_fault_has_its_code_and_changes_nothing(
+    folder: office.Office, ask: Callable[[office.Office], Asking], code: str, says: str
+) -> None:
+    asking = ask(folder)
+    before = content_of(folder.path)
+    with pytest.raises(office.Fault, match=says) as raised:
+        asking()
+    assert raised.value.code == code and [own.code for own in raised.value.parts()]
+    assert content_of(folder.path) == before and not folder.store.db.in_transaction
+
+
+def test_fault_has_its_way_out_apart(folder: office.Office) -> None:
+    with pytest.raises(office.WordsFault) as raised:
+        office.close(folder, office.caller(folder, "ana"), office.Close(None))
+    way = "./day close --date 2025-03-31 closes the next one"
+    assert (raised.value.without_way(), raised.value.way) == ("name the day", way)
+    assert str(raised.value) == f"name the day: {way}"
+
+
+def test_copy_and_questions_have_what_was_done(folder: office.Office, tmp_path: Path) -> None:
+    closed(folder)
+    made = office.backup(folder, tmp_path / "copy.sqlite")
+    with office.days_of(folder) as days:
+        (row,) = office.find(days, office.Find(account=1))
+        held = office.balance(days, 2)
+    assert (made.days, made.head, row.is_done) == (1, folder.events.head, True)
+    assert held[0] == ["2025-03-31", 2, "general", 40, 0, 0]
+
+
+def test_other_login_is_refused(folder: office.Office) -> None:
+    """A folder that others may write is no folder of this login alone."""
+    folder.path.chmod(0o777)
+    with pytest.raises(office.FileFault, match="chmod"):
+        office.open_folder(folder.path)
+
+
+def test_forged_line_is_refused(folder: office.Office) -> None:
+    closed(folder)
+    changed(folder.path, "UPDATE events SET who = 'eve' WHERE id = 2")
+    with pytest.raises(office.FileFault, match="somebody changed"):
+        office.open_folder(folder.path)
+
+
+def test_folder_of_a_program_is_read_by_another_process(folder: office.Office) -> None:
+    closed(folder)
+    said = subprocess.run(
+        [TOP / "day", "audit", "--second", "--office", folder.path], capture_output=True, text=True, check=False
+    )
+    assert said.returncode == 0 and "days 1, pairs read 1: 0 differences" in said.stdout

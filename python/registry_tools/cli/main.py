@@ -1,0 +1,224 @@
+"""Finds the command that the words name, runs it, and answers the exit status."""
+import argparse
+import contextlib
+import difflib
+import gc
+import importlib
+import re
+import signal
+import sqlite3
+import sys
+from pathlib import Path
+from typing import Protocol, cast
+
+from registry_tools import outcomes, steps, streams, tables, voice
+from registry_tools.errors import FILE, NOT_WRITTEN, Fault, FileFault
+from registry_tools.cli import named_day
+from registry_tools.cli.options import Words, look_at_files
+from registry_tools.progress import progress
+
+# Each command is a module of its own. It has its help as its own text, an EXAMPLE, and the functions `add_words`, which
+# tells a parser its words, and `run`, which answers the exit status.
+COMMANDS = {
+    "next": "writes the next day's text from a day and its report",
+    "chain": "looks whether days and reports follow from each other, and nothing is lost",
+    "verify": "works a day out once more, without the program, and compares the report",
+    "statements": "writes the statements of all accounts, each in a file",
+    "explain": "says what is wrong with a day text, and mends what a spreadsheet did to it",
+    "log": "writes the logs of reports as one table with a header",
+    "compliance": "shows which operators are compliant for a year, and why others are not",
+    "page": "makes HTML pages of a settled day: the day, compliance, accounts, and the rules",
+    "completion": "writes what a shell needs to complete the words of ./day and ./run",
+    "man": "writes the manual page",
+    "link": "prints a link to the desk at a socket, for whoever gives the command alone",
+}
+# Those of a folder that remembers its days.
+OFFICE_COMMANDS = {
+    "init": "makes a folder that remembers its days, with the first day text",
+    "status": "shows how it stands: the last day, what waits, what was handed in",
+    "hand-in": "hands in instructions, working days and accounts for the next day",
+    "change": "changes an account or the rules by hand, as a difference, or opens an account",
+    "changes": "lists the changes by hand",
+    "label": "names users, holders and accounts, or lists the names",
+    "take-back": "takes something back that was handed in",
+    "try": "shows what would come of the next day as it stands",
+    "close": "settles the next day and files it",
+    "approve": "approves what another login asked for, or shows what waits for whom",
+    "undo": "takes the last day back, as long as it is not released",
+    "correct": "closes a settled day once more, without an instruction or with others, and all days behind it",
+    "release": "says that others know of the last day: it stays",
+    "anchor": "writes a line to be kept elsewhere, by which an audit sees later whether the folder has grown from here",
+    "audit": "looks whether anything in it was changed, and each day follows from the one before",
+    "due": "shows what is due: deadlines, ends of reversal windows, what waits, the end of the calendar",
+    "find": "finds log rows over all days: of an account, a user, an act, what was refused",
+    "balance": "shows what an account held after a day",
+    "history": "shows all that became of an account",
+    "db": "makes a database of all days, for questions in SQL",
+    "unpack": "writes its texts as plain files, with their SHA-256",
+    "backup": "makes a copy of its file, also while others work on it",
+    "upgrade": "makes the file of a folder that version 1.1 made",
+    "month": "makes one page of several days: compliance, totals, refusals, changes by hand",
+    "send": "makes a package for each holder, to print or to send",
+    "desk": "serves the folder to a browser on this machine",
+    "import": "makes instructions or accounts of a table that a spreadsheet saved; needs no folder",
+    "export": "writes a table for a spreadsheet; needs no folder, if paths are named",
+    "form": "writes an empty table of an act, accounts or labels, to be filled in; needs no folder",
+}
+MODULES = {"hand-in": "hand_in", "take-back": "take_back", "try": "trial", "import": "importing"}
+# The command whose module lies in another room, which uses this one.
+ROOMS = {"desk": "desk.desk"}
+
+HEAD = """./day COMMAND ..
+
+The office round the program: the work of each day that needs no proof.
+
+"""
+TAIL = """
+There `--day DATE` stands in place of the paths of a day and its report: verify, statements, compliance, page, log,
+explain, export.
+./day COMMAND --help explains a command, with an example. ./day --version tells the version.
+
+exit status: 0 it is as it has to be, 1 something was found, 2 the words do not fit, 3 a file is not what it must be:
+then standard error has its name, the line, the field, what was found and what was expected. 5 standard output did not
+take all, or standard input is a folder. 130 somebody interrupted it.
+"""
+
+
+# Behind this word stands the folder of a desk, in whose words all is told, and a file into which the command writes
+# what came of it.
+FOR_DESK = "--for-desk"
+
+
+class Command(Protocol):
+    """A module that is a command."""
+
+    __doc__: str | None
+    EXAMPLE: str
+
+    def add_words(self, parser: argparse.ArgumentParser) -> None:
+        """Tells a parser the words of the command."""
+
+    def run(self, words: argparse.Namespace) -> int:
+        """Runs the command, and answers the exit status."""
+
+
+def help_text() -> str:
+    """The help of all commands."""
+    width = max(map(len, [*COMMANDS, *OFFICE_COMMANDS]))
+    lines = [f"  {name.ljust(width)}  {what}\n" for name, what in COMMANDS.items()]
+    own = [f"  {name.ljust(width)}  {what}\n" for name, what in OFFICE_COMMANDS.items()]
+    of_folder = "\nIn a folder that remembers its days, or with --office FOLDER:\n\n"
+    return streams.in_help("".join([HEAD, *lines, of_folder, *own, TAIL]))
+
+
+def perhaps_meant(word: str) -> str:
+    """The lines of the help of commands that are written almost as a word, or that speak of it."""
+    commands = {**COMMANDS, **OFFICE_COMMANDS}
+    near = difflib.get_close_matches(word, commands, 3)
+    begin = re.compile(rf"\b{re.escape(word.lower())}") if len(word) > 2 else None
+    names = [name for name, what in commands.items() if name in near or (begin and begin.search(what))]
+    return "".join(f"  {name}: {commands[name]}\n" for name in names)
+
+
+def parser_of(name: str, module: Command, names_day: bool = False) -> Words:
+    """The parser of a command. It reads no paths of a day if the words name a day of a folder in their place."""
+    example = f"example:\n  {module.EXAMPLE}"
+    parser = Words(names_day, prog=voice.TERMINAL.command(name), description=module.__doc__, epilog=example)
+    module.add_words(parser)
+    named_day.add_words(name, parser)
+    return parser
+
+
+def module_of(name: str) -> Command:
+    """The module of a command."""
+    path = ROOMS.get(name) or f"cli.{MODULES.get(name, name)}"
+    return cast(Command, importlib.import_module(f"registry_tools.{path}"))
+
+
+def run(name: str, arguments: list[str]) -> int:
+    """Runs a command. What it finds wrong is told on standard error."""
+    # (a book is a million small objects, none of which refers to itself: looking for such takes a third of the time)
+    gc.disable()
+    module = module_of(name)
+    try:
+        words = parser_of(name, module, named_day.is_named(name, arguments)).parse_args(arguments)
+        with named_day.looked_up(name, words):
+            look_at_files(words)
+            return module.run(words)
+    except SystemExit as end:
+        # (the help was written, or the words are not taken)
+        return int(end.code or 0)
+    except Fault as fault:
+        progress.clear()
+        outcomes.keep(fault)
+        print(fault if isinstance(fault, FileFault) else f"{voice.command(name)}: {fault}", file=sys.stderr)
+        return fault.status
+    finally:
+        progress.clear()
+
+
+def begin(name: str, arguments: list[str]) -> int:
+    """Runs the words of the command line, by the name under which it was started, and answers the exit status."""
+    streams.make_ready(name, NOT_WRITTEN)
+    for number in (signal.SIGTERM, signal.SIGHUP):
+        # (what is half written is taken away, as after Ctrl-C; `nohup` stays in force)
+        if signal.getsignal(number) == signal.SIG_DFL:
+            signal.signal(number, signal.default_int_handler)
+    return main(arguments)
+
+
+def start() -> None:
+    """The command of an installation."""
+    sys.exit(begin("registry-day", sys.argv[1:]))
+
+
+def main(arguments: list[str]) -> int:
+    """Runs the words of a command line, and answers the exit status."""
+    if arguments[:1] == [FOR_DESK] and arguments[3:]:
+        # (whoever started the command reads what came of it, and not its sentences)
+        outcomes.telling = outcomes.Telling()
+        with voice.speaking(voice.Desk(Path(arguments[1]))):
+            status = main(arguments[3:])
+        # (without room for it, the status alone tells what came of it)
+        with contextlib.suppress(OSError):
+            outcomes.write(Path(arguments[2]), status)
+        return status
+    tool = streams.names["./day"]
+    if arguments[:1] == ["help"]:
+        arguments = [*arguments[1:2], "--help"]
+    if arguments[:1] in (["-h"], ["--help"], ["-V"], ["--version"]) and arguments[1:]:
+        print(f"{tool}: {arguments[0]} takes no other word: found {' '.join(arguments[1:])}", file=sys.stderr)
+        return 2
+    if arguments[:1] in (["-h"], ["--help"]):
+        return streams.write(tool, help_text(), NOT_WRITTEN)
+    if arguments[:1] in (["-V"], ["--version"]):
+        return streams.write(tool, f"{tool} of registry {tables.VERSION}\n", NOT_WRITTEN)
+    if not arguments:
+        print(help_text(), end="", file=sys.stderr)
+        return 2
+    name, *rest = arguments
+    if name not in COMMANDS and name not in OFFICE_COMMANDS:
+        print(f"{perhaps_meant(name)}{tool}: there is no command {name}; {tool} --help tells all", file=sys.stderr)
+        return 2
+    try:
+        with steps.of_command(name):
+            status = run(name, rest)
+        sys.stdout.flush()
+        return status
+    except sqlite3.Error as error:
+        why = "another command may write the file just now, or it was changed"
+        print(f"{voice.command(name)}: {error}: {why}", file=sys.stderr)
+        return FILE
+    except OSError as error:
+        return cannot_go_on(voice.command(name), error)
+    except KeyboardInterrupt:
+        return 130
+
+
+def cannot_go_on(name: str, error: OSError) -> int:
+    """Says what cannot be read or written: a file, or standard output, which has no name."""
+    if error.filename is None:
+        streams.cannot_be_written(name, error)
+        return NOT_WRITTEN
+    print(f"{error.filename}: it cannot be read or written: {error.strerror}", file=sys.stderr)
+    return FILE
