@@ -11,7 +11,7 @@ from registry_tools.texts.in_words import grouped
 
 # The size of a plot, with room for the labels of its axes, in points; so many ticks an axis has at most; and how wide a
 # letter of a label is.
-WIDTH, HEIGHT, TOP, BOTTOM, RIGHT, TICKS, LETTER = 640, 220, 14, 26, 96, 5, 8.5
+WIDTH, HEIGHT, TOP, BOTTOM, RIGHT, TICKS, LETTER = 640, 220, 14, 26, 96, 5, 10
 # The lines of kinds, by how they are drawn.
 DRAWN = ("line", "line dashed")
 BAR = 100
