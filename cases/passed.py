@@ -12,7 +12,7 @@ from registry_tools import tables
 from registry_tools.second import rules
 from registry_tools.second.passing import PASSING, Passing
 
-DAYS = 100
+DAYS = 150
 FIELDS = {act.word: [name.lower() for name in act.fields.split()] for act in tables.ACTS}
 # What no other field of an instruction passes, and no later day: a status, a list or a calendar has to be another one
 # first, or nothing is left to do.
