@@ -142,12 +142,19 @@ def answer_attempts(base: Owned, secret: Path) -> Attempts:
     room = base.work / "for-all"
     room.mkdir()
     room.chmod(0o1777)
-    for name, words in (
-        ("copy.sqlite", ["backup"]), ("days.sqlite", ["db"]), ("plain", ["unpack"]),
+    inner = base.path.parent / "inner"
+    base.bert.does("os.mkdir(sys.argv[1], 0o700)", inner)
+    for name, leads_to, words in (
+        ("copy.sqlite", secret, ["backup"]), ("days.sqlite", secret, ["db"]), ("month.html", secret, ["month"]),
+        ("anchors", secret, ["anchor", "--to"]), ("answer", secret, ["status", "--to"]), ("plain", inner, ["unpack"]),
+        ("sheets", inner, ["statements", "--day", MONDAY]), ("pages", inner, ["page", "--day", MONDAY]),
+        ("sent", inner, ["send"]),
     ):  # fmt: skip
-        base.anna.does("p, q = sys.argv[1:]\nos.symlink(q, p)", room / name, secret)
+        base.anna.does("p, q = sys.argv[1:]\nos.symlink(q, p)", room / name, leads_to)
         ended, says = base.bert.day(*words, room / name, *base.own)
-        yield f"a link where {words[0]} writes", untouched(secret, "") or ("Traceback" in says and says)
+        is_told = ended == 3 and f"{room / name}: found a link" in says
+        yield f"a link where {words[0]} writes", None if is_told else f"status {ended}: {says[-600:]}"
+        yield f"a link where {words[0]} writes: what it leads to", untouched(secret, "") or [*inner.iterdir()] or None
     aside = room / f".x.csv.{os.getpid()}.day-unfinished"
     base.anna.does("p, q = sys.argv[1:]\nos.symlink(q, p)", aside, secret)
     said = Said("log", WEEK / "monday-report.csv", "--to", room / "x.csv")

@@ -8,6 +8,7 @@
  *                                 process gets before the call. Else the call fails with this error.
  *                                 If the number is 0, nothing happens but counting.
  *   interrupt_count()             how many calls were counted
+ *   interrupt_locks(error)        each lock of a file fails with this error from now on, as on a disk that keeps none
  *
  * Standard streams do not count.
  */
@@ -17,12 +18,13 @@
 #include <fcntl.h>
 #include <signal.h>
 #include <stdarg.h>
+#include <sys/file.h>
 #include <sys/stat.h>
 #include <sys/types.h>
 #include <unistd.h>
 
 static long counted, wanted;
-static int watching, wanted_error;
+static int watching, wanted_error, lock_error;
 
 void interrupt_at(long number, int error) {
   counted = 0;
@@ -32,6 +34,8 @@ void interrupt_at(long number, int error) {
 }
 
 long interrupt_count(void) { return counted; }
+
+void interrupt_locks(int error) { lock_error = error; }
 
 /* Whether this call has to fail; `errno` is set then. If the process has to end here, it does. */
 static int fails(void) {
@@ -90,4 +94,29 @@ int openat64(int folder, const char *path, int flags, ...) {
     if (fails()) return -1;
   }
   return REAL(openat64)(folder, path, flags, mode);
+}
+
+/* Locks. */
+static int has_no_lock(int command) {
+  if (!lock_error || (command != F_SETLK && command != F_SETLKW && command != F_GETLK)) return 0;
+  errno = lock_error;
+  return 1;
+}
+
+int flock(int file, int operation) { return has_no_lock(F_SETLK) ? -1 : REAL(flock)(file, operation); }
+
+int fcntl64(int file, int command, ...) {
+  va_list rest;
+  va_start(rest, command);
+  void *value = va_arg(rest, void *);
+  va_end(rest);
+  return has_no_lock(command) ? -1 : REAL(fcntl64)(file, command, value);
+}
+
+int fcntl(int file, int command, ...) {
+  va_list rest;
+  va_start(rest, command);
+  void *value = va_arg(rest, void *);
+  va_end(rest);
+  return has_no_lock(command) ? -1 : REAL(fcntl)(file, command, value);
 }

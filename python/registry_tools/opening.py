@@ -7,6 +7,7 @@ whoever names the folder chooses them. Elsewhere files are opened as ever.
 """
 import contextlib
 import errno
+import fcntl
 import os
 import stat
 from collections.abc import Iterator
@@ -126,3 +127,26 @@ def listed(path: str | Path) -> list[str]:
         return sorted(os.listdir(folder))
     finally:
         os.close(folder)
+
+
+def must_have_locks(path: str | Path) -> None:
+    """Ends the command if the disk on which a file lies keeps no locks. (SQLite would take that for another command that
+    has the file locked, and wait.)"""
+    file = open_file(path, os.O_RDONLY)
+    try:
+        with telling_of_locks(path), contextlib.suppress(BlockingIOError):
+            fcntl.lockf(file, fcntl.LOCK_SH | fcntl.LOCK_NB)
+    finally:
+        os.close(file)
+
+
+@contextlib.contextmanager
+def telling_of_locks(path: str | Path) -> Iterator[None]:
+    """Has an error of a lock in the block be told as that of a disk that keeps none; not that somebody else has it."""
+    try:
+        yield
+    except BlockingIOError:
+        raise
+    except OSError as error:
+        found = f"a disk that keeps no locks: {error.strerror}"
+        raise FileFault(path, 0, "", found, "a local disk: without locks two commands would write at once") from None

@@ -13,11 +13,14 @@ from types import TracebackType
 from registry_tools import opening, steps
 from registry_tools.errors import FileFault, UnwrittenFault, of_file
 from registry_tools.layout import must_not_be_of_folder
+from registry_tools.notes import LOOK
+from registry_tools.opening import LinkFault
 
 # How the name of a file or folder ends that is being written: `.NAME.PROCESS` stands before it.
 UNFINISHED = ".day-unfinished"
-# (of a database that is being written there is a journal beside it)
-LEFT = re.compile(rf"\..*\.([0-9]{{1,9}}){re.escape(UNFINISHED)}(-journal)?", re.DOTALL)
+# What SQLite writes beside a database, by how its name ends.
+BESIDE = ("-journal", "-wal", "-shm")
+LEFT = re.compile(rf"\..*\.([0-9]{{1,9}}){re.escape(UNFINISHED)}({'|'.join(BESIDE)})?", re.DOTALL)
 ANYBODY_WRITES = stat.S_IWUSR | stat.S_IWGRP | stat.S_IWOTH
 
 
@@ -43,19 +46,27 @@ def write_all(file: int, content: bytes) -> None:
 
 def must_be_writable(path: str | Path) -> None:
     """Ends the command if a file may not be written, before any work is done for it."""
+    must_be_no_link(path)
     must_not_be_of_folder(path)
-    real = Path(os.path.realpath(path))
-    if real.exists() and not real.is_file():
-        raise of_file(path, f"it cannot be written: it is {'a folder' if real.is_dir() else 'no file'}")
+    own = Path(path)
+    if own.exists() and not own.is_file():
+        raise of_file(path, f"it cannot be written: it is {'a folder' if own.is_dir() else 'no file'}")
     # (to the superuser each file is open, also one that nobody may write)
-    if real.exists() and (not real.stat().st_mode & ANYBODY_WRITES or not os.access(real, os.W_OK)):
+    if own.exists() and (not own.stat().st_mode & ANYBODY_WRITES or not os.access(own, os.W_OK)):
         raise of_file(path, "it may not be written")
-    if not real.parent.is_dir():
-        is_file = real.parent.exists() or not_a_folder(real.parent)
-        why = "Not a directory" if is_file else f"there is no folder {Path(path).parent}"
+    if not own.parent.is_dir():
+        is_file = own.parent.exists() or not_a_folder(own.parent)
+        why = "Not a directory" if is_file else f"there is no folder {own.parent}"
         raise of_file(path, f"it cannot be written: {why}")
-    if not os.access(real.parent, os.W_OK | os.X_OK):
+    if not os.access(own.parent, os.W_OK | os.X_OK):
         raise of_file(path, "it cannot be written: its folder may not be written")
+
+
+def must_be_no_link(path: str | Path) -> None:
+    """Ends the command if a link has the name that an answer is to get: in a folder that others may write, somebody
+    else chose where it leads. (The way to that folder may have links: whoever names it chooses them.)"""
+    if Path(path).is_symlink():
+        raise LinkFault(path)
 
 
 def not_a_folder(path: Path) -> bool:
@@ -91,11 +102,49 @@ def is_running(process: int) -> bool:
     return True
 
 
+def keep_name(path: Path) -> None:
+    """Has the name that a file or folder just got be kept, also if the machine stops. What was done is done: if the
+    disk does not say so, that is told, and no fault."""
+    try:
+        folder = os.open(path.parent, opening.FOLDER)
+        try:
+            os.fsync(folder)
+        finally:
+            os.close(folder)
+    except OSError as error:
+        why = f"it is there, and the disk does not say that it stays if the machine stops now: {error.strerror}"
+        print(f"{LOOK}: {path}: {why}", file=sys.stderr)
+
+
+@contextlib.contextmanager
+def made_aside(path: str | Path, mode: int = 0o666) -> Iterator[Path]:
+    """A new file, which the block fills by its own ways, as SQLite does. It gets the name `path` behind the block, also
+    if the machine stops then, if nothing goes wrong there. Raises FileFault if it can't be written."""
+    own = Path(path)
+    beside = own.absolute().parent / name_beside(own.name)
+    remove_left(beside.parent)
+    try:
+        with writing(own):
+            os.close(opening.create(beside, mode))
+        opening.must_have_locks(beside)
+        yield beside
+        with writing(own):
+            steps.hold()
+            os.replace(beside, own)
+        keep_name(own)
+    except BaseException:
+        for end in ("", *BESIDE):
+            with contextlib.suppress(OSError):
+                os.unlink(f"{beside}{end}")
+        raise
+
+
 class NewFolder:
     """A folder that is not there yet, or empty. Its files are written aside, and get their names at the end of the
-    block: with the folder, or if it is there already, also as `.` or by a link, in it."""
+    block: with the folder, or if it is there already, also as `.`, in it."""
 
     def __init__(self, path: str | Path) -> None:
+        must_be_no_link(path)
         self.path = Path(path)
         self.is_there = self.path.is_dir()
         name = name_beside(self.path.name or "new")
@@ -109,8 +158,6 @@ class NewFolder:
         expected = "a folder that is not there yet, or is empty"
         if self.is_there and any(self.path.iterdir()):
             raise FileFault(self.path, 0, "", "a folder with files in it", expected)
-        if not self.is_there and self.path.is_symlink():
-            raise FileFault(self.path, 0, "", "a link to nothing", expected)
         if self.path.exists() and not self.is_there:
             raise FileFault(self.path, 0, "", "a file", expected)
         if not self.path.parent.exists() and not not_a_folder(self.path.parent):
@@ -175,13 +222,13 @@ class NewFolder:
 
 class NewFile:
     """A file that is written beside its name, and gets its name by `keep`. If that is never called, nothing has
-    changed. A file that was there before keeps its mode, and a link to it stays one."""
+    changed. A file that was there before keeps its mode."""
 
     def __init__(self, path: str | Path, text: str | bytes) -> None:
         must_be_writable(path)
-        self.path, self.real = Path(path), Path(os.path.realpath(path))
-        self.beside = self.real.parent / name_beside(self.real.name)
-        remove_left(self.real.parent)
+        self.path = Path(path)
+        self.beside = self.path.parent / name_beside(self.path.name)
+        remove_left(self.path.parent)
         try:
             self.write(text if isinstance(text, bytes) else text.encode("utf-8", "surrogateescape"))
         except BaseException as error:
@@ -194,8 +241,8 @@ class NewFile:
         """Writes the file, as a new one: whoever may write there may have put a link under its name. Raises OSError."""
         file = opening.create(self.beside)
         try:
-            if self.real.exists():
-                os.fchmod(file, stat.S_IMODE(self.real.stat().st_mode))
+            if self.path.is_file() and not self.path.is_symlink():
+                os.fchmod(file, stat.S_IMODE(self.path.stat().st_mode))
             write_all(file, content)
         finally:
             os.close(file)
@@ -204,7 +251,7 @@ class NewFile:
         """Puts the file in its place. Raises FileFault if that cannot be done."""
         steps.hold()
         try:
-            os.replace(self.beside, self.real)
+            os.replace(self.beside, self.path)
         except OSError as error:
             steps.let_go()
             self.forget()

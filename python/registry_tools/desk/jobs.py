@@ -17,7 +17,7 @@ from dataclasses import dataclass, field
 from pathlib import Path
 from typing import Callable, Iterator
 
-from registry_tools import isolated, main, outcomes
+from registry_tools import isolated, main, opening, outcomes
 from registry_tools.errors import FOUND, WordsFault
 from registry_tools.office.incoming import Given
 from registry_tools.outcomes import Kind
@@ -266,7 +266,8 @@ def private_folder() -> Iterator[Path]:
     remove_left_folders(Path(tempfile.gettempdir()))
     with tempfile.TemporaryDirectory(prefix=PREFIX, ignore_cleanup_errors=True) as own:
         with open(Path(own) / LOCK, "wb") as lock:
-            fcntl.flock(lock, fcntl.LOCK_EX)
+            with opening.telling_of_locks(own):
+                fcntl.flock(lock, fcntl.LOCK_EX)
             yield Path(own)
 
 

@@ -23,7 +23,7 @@ from pathlib import Path
 from registry_tools.errors import FileFault, WordsFault, shown
 from registry_tools.office import composing
 from registry_tools.office.office import Office
-from registry_tools.output import NewFile
+from registry_tools.output import NewFile, must_be_writable
 from registry_tools.store.events import UPGRADED, Event, Events, now
 from registry_tools.store.file import Store
 from registry_tools.texts.rows import bytes_of, rows_of
@@ -126,6 +126,7 @@ def anchor_of(office: Office) -> Anchor:
 
 def keep(path: Path, anchor: Anchor) -> int:
     """Puts an anchor behind those of a file, and answers how many there are."""
+    must_be_writable(path)
     there = bytes_of(path) if path.exists() else b""
     if there and not there.endswith(b"\n"):
         raise FileFault(path, 0, "", "no line end behind the last line", "a line end: the file may be cut")

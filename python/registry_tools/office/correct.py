@@ -88,7 +88,7 @@ def correct(office: Office, by: By, asked: Correct) -> Corrected | Shown | tuple
     day than the corrected one."""
     if not asked.without and not asked.files:
         raise WordsFault("nothing to correct: --without RECORD or --with FILE says what is wrong")
-    with office.changing("correct", by):
+    with office.changing("correct", by) if asked.yes else office.trying("correct", by):
         must_be_open(office, asked.date, asked.without)
         added = [incoming.read(each) for each in asked.files]
         # (what it adds needs what ./day hand-in and ./day change need: the right, and the second one)

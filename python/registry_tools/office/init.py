@@ -1,6 +1,5 @@
 """Makes a folder that remembers its days, with the first day text, or puts another first text into one without a
 settled day."""
-import contextlib
 import os
 from dataclasses import dataclass
 from pathlib import Path
@@ -12,7 +11,7 @@ from registry_tools.office.handed import FIRST, HandedIn
 from registry_tools.layout import SETTINGS
 from registry_tools.office.office import By, Office
 from registry_tools.office.settings import Settings
-from registry_tools.output import NewFolder, writing
+from registry_tools.output import NewFolder, keep_name, writing
 from registry_tools.store import file
 from registry_tools.texts.day_text import DayText, day_of
 from registry_tools.texts.rows import bytes_of, rows_of_text, text_of_rows
@@ -55,8 +54,7 @@ def init(asked: Init, by: By) -> DayText:
                 sync(path)
             if made.is_there:
                 os.chmod(asked.path, file.FOLDER_MODE)
-    with contextlib.suppress(OSError):
-        sync(asked.path.parent)
+    keep_name(asked.path)
     return first
 
 

@@ -130,7 +130,7 @@ def mark_and_keep(office: Office, looked: list[Looked]) -> None:
     command that changes the file, is passed over."""
     mark_new(office, looked)
     try:
-        with office.store.change():
+        with office.store.change(wait=0):
             forget(office)
             rows = [("",), *((tried.line(),) for tried in looked)]
             office.store.db.executemany("INSERT INTO looked VALUES (?)", rows)

@@ -167,7 +167,8 @@ def alone(path: Path) -> Iterator[None]:
     try:
         if file is not None:
             try:
-                fcntl.flock(file, fcntl.LOCK_EX | fcntl.LOCK_NB)
+                with opening.telling_of_locks(path / LOCK):
+                    fcntl.flock(file, fcntl.LOCK_EX | fcntl.LOCK_NB)
             except BlockingIOError:
                 raise of_file(path, "a command of version 1.1 works on it just now: upgrade behind it") from None
         yield

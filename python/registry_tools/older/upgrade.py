@@ -1,6 +1,5 @@
 """Makes the file of a folder of version 1.1: its texts, its events one by one, and the tables of questions. The old
 files are only read, and stay."""
-import contextlib
 import datetime
 import os
 import zlib
@@ -20,10 +19,10 @@ from registry_tools.older.files import bytes_in
 from registry_tools.older import folder as places, next_day
 from registry_tools.older.folder import LABELS, TABLES, Folder
 from registry_tools.older.handed import FIRST, KINDS, HandedIn, Part
-from registry_tools.output import name_beside, remove_left, writing
+from registry_tools.output import made_aside
 from registry_tools.progress import progress
 from registry_tools.questions.seams import Filed, compare_texts, look_at_day, past_day_of
-from registry_tools.store import copies, daybook, events, file
+from registry_tools.store import daybook, events, file
 from registry_tools.store.events import APPROVED, ASKED, HANDED, LABELLED, NO_DATE, SOURCE, TAKEN, UPGRADED, Event
 from registry_tools.store.file import Store
 from registry_tools.texts.pending import read_pending
@@ -56,24 +55,16 @@ def upgrade(path: Path, login: str, who: str) -> Upgraded:
         raise FileFault(place, 0, "", "a file that is there already", "no such file: the folder is no older one")
     with places.alone(path):
         folder = places.opened(path)
-        beside = path / name_beside(file.NAME)
-        remove_left(path)
         try:
-            with file.making(beside) as store:
+            with made_aside(place) as beside, file.making(beside) as store:
                 making = Making(folder, store, login, who)
                 making.make()
                 if making.found.faults:
                     raise Faulty
-            with writing(place):
-                copies.put_in_place(beside, place)
         except UnwrittenFault as fault:
             raise UnwrittenFault(place, 0, "", fault.found, "") from None
         except Faulty:
             return Upgraded(faults=[*map(str, making.found.faults), making.found.summary()])
-        finally:
-            for suffix in ("", "-journal"):
-                with contextlib.suppress(OSError):
-                    os.unlink(f"{beside}{suffix}")
         there, old = making.store.events, folder.journal.last_line[: events.HEAD_DIGITS]
         return Upgraded(len(there.of_days()), len(there.days), old, there.head)
 

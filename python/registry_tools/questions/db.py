@@ -3,13 +3,12 @@ import contextlib
 import os
 import sqlite3
 import stat
-from collections.abc import Iterator
 from dataclasses import dataclass
 from pathlib import Path
 
-from registry_tools import opening, steps, voice
+from registry_tools import voice
 from registry_tools.errors import FileFault, of_file
-from registry_tools.output import name_beside, remove_left
+from registry_tools.output import made_aside
 from registry_tools.questions.days import Days
 from registry_tools.store import daybook, file
 
@@ -33,6 +32,8 @@ def make(days: Days, path: str) -> Made:
         there, own = days_there(path), days.database.execute(DAYS_IN).fetchall()
         compare(path, there, own, days)
         with made_aside(path) as beside:
+            if os.path.exists(path):
+                os.chmod(beside, stat.S_IMODE(os.stat(path).st_mode))
             with contextlib.closing(sqlite3.connect(beside.as_uri(), isolation_level=None, uri=True)) as target:
                 copy(days.database, target)
     except sqlite3.Error as error:
@@ -54,34 +55,11 @@ def copy(database: sqlite3.Connection, target: sqlite3.Connection) -> None:
     target.execute("COMMIT")
 
 
-@contextlib.contextmanager
-def made_aside(path: str) -> Iterator[Path]:
-    """A file that gets the name `path` behind the block, if nothing goes wrong there. A link to it stays one."""
-    real = Path(os.path.realpath(path))
-    beside = real.parent / name_beside(real.name)
-    remove_left(real.parent)
-    try:
-        # (a new file: whoever may write there may have put a link under its name)
-        os.close(opening.create(beside))
-        yield beside
-        if real.exists():
-            os.chmod(beside, stat.S_IMODE(real.stat().st_mode))
-        steps.hold()
-        os.replace(beside, real)
-    except OSError:
-        steps.let_go()
-        raise
-    finally:
-        for suffix in ("", "-journal"):
-            with contextlib.suppress(OSError):
-                Path(f"{beside}{suffix}").unlink(missing_ok=True)
-
-
 def days_there(path: str) -> list[tuple[str, str, str]]:
     """The days that a database has, with the sums of their texts, if it is there."""
     if not Path(path).exists():
         return []
-    file.look_beside(Path(os.path.realpath(path)))
+    file.look_beside(Path(path))
     with contextlib.closing(sqlite3.connect(path)) as database:
         if not database.execute(HAS_DAYS).fetchone():
             found = f"a file that {voice.command('db')} has not made"

@@ -1,13 +1,11 @@
 """Copies of the file of a folder, also of one in use: made by SQLite's own backup, and whole or not at all."""
 import contextlib
-import os
 import sqlite3
 from dataclasses import dataclass
 from pathlib import Path
 
-from registry_tools import opening, steps
 from registry_tools.errors import FileFault
-from registry_tools.output import must_be_writable, name_beside, remove_left, writing
+from registry_tools.output import made_aside, must_be_writable
 from registry_tools.store import events, file
 from registry_tools.store.file import MODE, Store
 
@@ -27,47 +25,26 @@ def backup(store: Store, path: str) -> Copy:
     """Makes a copy of the file, in place of an earlier copy if there is one. Raises FileFault if something else has
     that name, or if the copy is not what it has to be."""
     must_be_writable(path)
-    real = Path(os.path.realpath(path))
-    if real.exists():
-        must_be_earlier(store, path, real)
-    beside = real.parent / name_beside(real.name)
-    remove_left(real.parent)
-    try:
-        with writing(Path(path)), file.telling(Path(path)):
-            os.close(opening.create(beside, MODE))
-            with contextlib.closing(sqlite3.connect(beside)) as target:
-                store.db.backup(target)
-            made = copy_at(beside, path)
-            put_in_place(beside, real)
-    finally:
-        for suffix in ("", "-journal"):
-            with contextlib.suppress(OSError):
-                os.unlink(f"{beside}{suffix}")
-    return made
+    own = Path(path)
+    if own.exists():
+        must_be_earlier(store, own)
+    with file.telling(own), made_aside(own, MODE) as beside:
+        with contextlib.closing(sqlite3.connect(beside)) as target:
+            store.db.backup(target)
+        return copy_at(beside, own)
 
 
-def put_in_place(beside: Path, path: Path) -> None:
-    """Gives a whole file its name, in place of one that had it, also if the machine stops then. Raises OSError."""
-    steps.hold()
-    os.replace(beside, path)
-    folder = os.open(path.parent, opening.FOLDER)
-    try:
-        os.fsync(folder)
-    finally:
-        os.close(folder)
-
-
-def copy_at(place: Path, path: str) -> Copy:
+def copy_at(place: Path, path: Path) -> Copy:
     """What the copy at a place has. A fault names the path that it is to have."""
     with contextlib.closing(file.connected(place)) as db:
-        there = events.read(db, Path(path))
+        there = events.read(db, path)
         return Copy(len(there.of_days()), len(there.days), there.head)
 
 
-def must_be_earlier(store: Store, path: str, real: Path) -> None:
+def must_be_earlier(store: Store, path: Path) -> None:
     """Ends the command if what has a name is no earlier state of this folder: then it would be lost."""
-    file.look_beside(real)
-    with contextlib.suppress(sqlite3.Error), contextlib.closing(file.connected(real)) as db:
+    file.look_beside(path)
+    with contextlib.suppress(sqlite3.Error), contextlib.closing(file.connected(path)) as db:
         line = file.last_line(db)
         if line in {event.line for event in store.events.all}:
             return

@@ -7,7 +7,7 @@ strict.
 import datetime
 import sqlite3
 from collections.abc import Iterable, Iterator, Sequence
-from importlib import resources
+from pathlib import Path
 
 from registry_tools.store.past import PastDay
 from registry_tools.texts.books import sums_told
@@ -40,7 +40,7 @@ OF_DAY = "record IN (SELECT record FROM {place}instructions WHERE date = :date)"
 
 def schema() -> str:
     """The statements that make all tables."""
-    return (resources.files(__package__) / "daybook.sql").read_text(encoding="utf-8")
+    return Path(__file__).with_name("daybook.sql").read_text(encoding="utf-8")
 
 
 def statements(script: str) -> Iterator[str]:

@@ -5,18 +5,21 @@ FOLDER and the file belong to one login, and nobody else may write them: so whoe
 has made. (A link on the way to FOLDER is followed: whoever names the folder chooses it.)
 """
 import contextlib
+import fcntl
 import os
 import re
 import sqlite3
 import stat
+import struct
 from collections.abc import Iterator
 from dataclasses import dataclass
-from importlib import resources
 from pathlib import Path
 
 from registry_tools import opening, steps, voice
 from registry_tools.errors import FileFault, UnwrittenFault, of_file
+from registry_tools.layout import SETTINGS
 from registry_tools.opening import LinkFault
+from registry_tools.output import BESIDE
 from registry_tools.store import events
 from registry_tools.store.events import Event, Events
 from registry_tools.store.texts import Texts
@@ -29,11 +32,15 @@ MODE, FOLDER_MODE = 0o600, 0o700
 OTHERS_WRITE = stat.S_IWGRP | stat.S_IWOTH
 # How long a reader waits for one that writes, and a command that changes for another one, in milliseconds.
 MOST_WAIT, SHORT_WAIT = 60_000, 200
+# The byte by which SQLite locks a file for those who write; and how the system tells of a lock (struct flock).
+RESERVED, FLOCK = 0x40000001, "hhqqi"
 # What an open file keeps in memory, in KiB.
 CACHE = 64 * 1024
 # So ends a journal of SQLite that names another one. (No command changes two files in one step.)
 NAMES_ANOTHER = bytes.fromhex("d9d505f920a163d7")
-# How SQLite says that it can't read a file. (Its sentences may have bytes of the file in them.)
+# How SQLite says that another process has a file locked, and that it can't read one. (Its sentences may have bytes of it
+# in them.)
+LOCKED = "database is locked"
 UNREADABLE = (sqlite3.DatabaseError, UnicodeError)
 BY_OTHERS = "the file of one login: who else works with the folder comes by its desk"
 
@@ -52,11 +59,11 @@ class Store:
         return events.add(self.db, self.events, event)
 
     @contextlib.contextmanager
-    def change(self) -> Iterator[None]:
-        """One step: all that the block adds, or nothing of it. Raises FileFault if another command changes the file, or
-        if it can't be written."""
+    def change(self, wait: int = SHORT_WAIT) -> Iterator[None]:
+        """One step: all that the block adds, or nothing of it. Raises FileFault if another command changes the file for
+        more than `wait` milliseconds, or if it can't be written."""
         with telling(self.path):
-            self.begin()
+            self.begin(wait)
             try:
                 yield
                 # (a signal that comes from here on waits: what is done is told)
@@ -74,43 +81,42 @@ class Store:
             return
         self.db.execute("BEGIN")
         try:
-            if last_line(self.db) != self.events.last_line:
-                self.events = events.read(self.db, self.path)
+            self.read_anew()
             yield
         finally:
             self.db.execute("ROLLBACK")
 
     @contextlib.contextmanager
     def trying(self) -> Iterator[None]:
-        """What the block adds is taken back at its end: in a change, and else before it comes into the file."""
-        if self.db.in_transaction:
-            self.db.execute("SAVEPOINT trying")
-            count = len(self.events.all)
+        """What the block adds comes into memory alone, and is gone at its end: whoever only looks takes no lock of those
+        who write, so neither waits for the other. (Tables of questions are not read meanwhile.)"""
+        before = self.db, self.texts, self.events
+        with telling(self.path), contextlib.closing(sqlite3.connect(":memory:", isolation_level=None)) as memory:
+            if not self.db.in_transaction:
+                self.read_anew()
+            memory.executescript(f"{schema()} DROP TRIGGER events_follow; BEGIN")
             try:
+                self.db, self.texts = memory, Texts(memory, self.path, self.texts)
+                self.events = Events(self.path, self.events.all)
                 yield
             finally:
-                self.db.execute("ROLLBACK TO trying")
-                self.db.execute("RELEASE trying")
-                self.events = Events(self.path, self.events.all[:count])
-            return
-        with telling(self.path):
-            self.begin()
-            try:
-                yield
-            finally:
-                self.roll_back()
+                self.db, self.texts, self.events = before
 
-    def begin(self) -> None:
+    def begin(self, wait: int) -> None:
         """Begins a change, and reads what others have done since the file was opened."""
-        self.db.execute(f"PRAGMA busy_timeout = {SHORT_WAIT}")
+        self.db.execute(f"PRAGMA busy_timeout = {wait}")
         try:
             self.db.execute("BEGIN IMMEDIATE")
         except sqlite3.OperationalError as error:
-            if is_busy(error):
+            if str(error) == LOCKED:
                 raise of_file(self.path.parent, "another command changes it just now: try again") from None
             raise
         finally:
             self.db.execute(f"PRAGMA busy_timeout = {MOST_WAIT}")
+        self.read_anew()
+
+    def read_anew(self) -> None:
+        """Reads what others have done since the events were read."""
         if last_line(self.db) != self.events.last_line:
             self.events = events.read(self.db, self.path)
 
@@ -122,25 +128,18 @@ class Store:
         self.events = Events(self.path, [own for own in self.events.all if own.id <= last_id(self.db)])
 
     def is_changing(self) -> bool:
-        """Whether a command changes the file now."""
+        """Whether another process has the lock of those who write. It is only asked for. (Behind that this process has
+        no lock of the file any more: so nobody asks in a transaction.)"""
+        asked = struct.pack(FLOCK, fcntl.F_WRLCK, os.SEEK_SET, RESERVED, 1, 0)
+        file = opening.open_file(self.path, os.O_RDONLY)
         try:
-            self.db.execute("PRAGMA busy_timeout = 0")
-            self.db.execute("BEGIN IMMEDIATE")
-            self.db.execute("ROLLBACK")
-        except sqlite3.OperationalError as error:
-            return is_busy(error)
+            return bool(struct.unpack(FLOCK, fcntl.fcntl(file, fcntl.F_GETLK, asked))[0] != fcntl.F_UNLCK)
         finally:
-            self.db.execute(f"PRAGMA busy_timeout = {MOST_WAIT}")
-        return False
+            os.close(file)
 
     def close(self) -> None:
         """Closes the file."""
         self.db.close()
-
-
-def is_busy(error: sqlite3.Error) -> bool:
-    """Whether another process has the file locked."""
-    return "locked" in str(error)
 
 
 def last_line(db: sqlite3.Connection) -> str:
@@ -161,6 +160,8 @@ def telling(path: Path) -> Iterator[None]:
         yield
     except UNREADABLE as error:
         what = str(error)
+        if what == LOCKED:
+            raise of_file(path, "other commands read or write it for more than a minute: try again") from None
         if "readonly" in what or "full" in what or "disk I/O" in what or "unable to open" in what:
             raise UnwrittenFault(path, 0, "", f"it cannot be written: {what}", "") from None
         raise of_file(path, f"it cannot be read or written: {what}") from None
@@ -185,7 +186,8 @@ def look_at(folder: Path) -> Path:
     opening.guard(folder)
     try:
         must_be_own(folder, os.stat(folder))
-        file = opening.open_file(path, os.O_RDONLY)
+        # (it is not opened for that: who closes it would let go of all locks of this process, also of other threads)
+        about = os.lstat(path)
     except FileNotFoundError:
         if (folder / "journal.csv").exists():
             older = f"a folder of version 1.1: {voice.command('upgrade', 'FOLDER')} makes the file of it"
@@ -193,32 +195,30 @@ def look_at(folder: Path) -> Path:
         raise of_file(path, "it is not there: put it back from a copy") from None
     except OSError as error:
         raise of_file(path, f"it cannot be read: {error.strerror}") from None
-    try:
-        about = os.fstat(file)
-        if not stat.S_ISREG(about.st_mode):
-            raise LinkFault(path, "no plain file")
-        if about.st_nlink != 1:
-            raise LinkFault(path, "a file that has another name elsewhere")
-        must_be_own(path, about)
-    finally:
-        os.close(file)
+    must_be_plain(path, about)
     look_beside(path)
+    opening.must_have_locks(folder / SETTINGS)
     return path
+
+
+def must_be_plain(path: str | Path, about: os.stat_result) -> None:
+    """Ends the command if something is a link, no plain file, one with another name, or one of another login."""
+    if not stat.S_ISREG(about.st_mode):
+        raise LinkFault(path, "a link" if stat.S_ISLNK(about.st_mode) else "no plain file")
+    if about.st_nlink > 1:
+        raise LinkFault(path, "a file that has another name elsewhere")
+    must_be_own(path, about)
 
 
 def look_beside(path: Path) -> None:
     """Ends the command if what SQLite would read beside a file is no plain file of this login, or names another file:
     SQLite would take that one away."""
-    for name in (f"{path}{end}" for end in ("-journal", "-wal", "-shm")):
+    for name in (f"{path}{end}" for end in BESIDE):
         try:
             about = os.lstat(name)
         except FileNotFoundError:
             continue
-        if not stat.S_ISREG(about.st_mode):
-            raise LinkFault(name, "a link" if stat.S_ISLNK(about.st_mode) else "no plain file")
-        if about.st_nlink > 1:
-            raise LinkFault(name, "a file that has another name elsewhere")
-        must_be_own(name, about)
+        must_be_plain(name, about)
     with contextlib.suppress(FileNotFoundError), open(f"{path}-journal", "rb") as journal:
         journal.seek(max(os.fstat(journal.fileno()).st_size - len(NAMES_ANOTHER), 0))
         if journal.read() == NAMES_ANOTHER:
@@ -264,17 +264,17 @@ def must_be_one(db: sqlite3.Connection, path: Path) -> None:
 
 def must_be_tables(db: sqlite3.Connection, path: Path) -> None:
     """Ends the command if a view has the name of a table: what it asks may have no end."""
-    for name in re.findall(r"CREATE TABLE (\w+)", schema()):
-        # (of a file that can't be read others tell more)
-        with contextlib.suppress(*UNREADABLE):
-            if db.execute("SELECT 1 FROM sqlite_master WHERE type = 'view' AND name = ?", (name,)).fetchone():
-                raise FileFault(path, 0, f"table {name}", "a view", "a table: somebody changed the file by other ways")
+    # (of a file that can't be read others tell more)
+    with contextlib.suppress(*UNREADABLE):
+        views = {name for (name,) in db.execute("SELECT name FROM sqlite_master WHERE type = 'view'")}
+        for name in views & {*re.findall(r"CREATE TABLE (\w+)", schema())}:
+            raise FileFault(path, 0, f"table {name}", "a view", "a table: somebody changed the file by other ways")
 
 
 def schema() -> str:
     """The statements that make all tables. A file has them without their comments: so each letter of it counts."""
-    own = resources.files(__package__)
-    text = "".join((own / name).read_text(encoding="utf-8") for name in ("schema.sql", "daybook.sql"))
+    own = Path(__file__)
+    text = "".join(own.with_name(name).read_text(encoding="utf-8") for name in ("schema.sql", "daybook.sql"))
     return re.sub(r"\n?[ \t]*--[^\n]*", "", text)
 
 
@@ -282,7 +282,8 @@ def schema() -> str:
 def making(path: Path) -> Iterator[Store]:
     """Makes a new file, in one step, with what the block adds. Raises FileFault."""
     with telling(path):
-        os.close(os.open(path, os.O_RDWR | os.O_CREAT | os.O_EXCL | os.O_NOFOLLOW, MODE))
+        os.close(opening.create(path, MODE))
+        opening.must_have_locks(path)
         db = connected(path)
         try:
             db.execute("PRAGMA journal_mode = DELETE")

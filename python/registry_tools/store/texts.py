@@ -24,10 +24,11 @@ def put_back() -> str:
 
 @dataclass(frozen=True)
 class Texts:
-    """The texts of a file. A fault names the path of the file."""
+    """The texts of a file, or of what is tried in it: then its own are `below`. A fault names the path of the file."""
 
     db: sqlite3.Connection
     path: Path
+    below: "Texts | None" = None
 
     def put(self, content: bytes) -> str:
         """Keeps a text, and answers its sum. Raises FileFault if it is too long to be kept."""
@@ -73,6 +74,8 @@ class Texts:
     def packed(self, own: str) -> tuple[bytes, int]:
         """The packed bytes of a text, and how many it has unpacked."""
         row = self.db.execute("SELECT packed, size FROM texts WHERE sum = ?", (own,)).fetchone()
+        if row is None and self.below:
+            return self.below.packed(own)
         if row is None:
             raise self.fault(own, "no such text")
         packed, size = row
