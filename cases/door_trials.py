@@ -19,13 +19,17 @@ from http.client import HTTPMessage
 from pathlib import Path
 from typing import Any
 
+import door_commands
+import door_machines
+import door_week
 import logins
 import real_servers
-from harness import MOST_SECONDS, TOP, LeftOut, differs
+from harness import MOST_SECONDS, PYTHON, TOP, LeftOut, differs
 from logins import Login
 from real_desk import Answer, File, form_of
 
 from registry_tools.desk import door
+from registry_tools.desk.commands import MOST_OPEN
 from registry_tools.desk.door import MOST_LINKS, Links, link_name
 
 Told = Iterator[tuple[str, object]]
@@ -182,7 +186,9 @@ class SocketDesk:
         with log.open("wb") as errors:
             self.process = subprocess.Popen(
                 ["setpriv", f"--reuid={owner.user}", f"--regid={owner.group}", "--clear-groups", *map(str, line)],
-                cwd="/", stdin=subprocess.DEVNULL, stdout=subprocess.PIPE, stderr=errors, text=True,
+                # (what this says to gunicorn is of no moment)
+                cwd="/", env={**os.environ, "SCRIPT_NAME": "/elsewhere"}, stdin=subprocess.DEVNULL,
+                stdout=subprocess.PIPE, stderr=errors, text=True,
             )  # fmt: skip
         assert self.process.stdout is not None
         first = self.process.stdout.readline()
@@ -234,8 +240,9 @@ def link_trials(mock: Any) -> Told:
 # People.
 
 
-def all_trials(work: Path, leave_out: Callable[[str, LeftOut], None]) -> Told:
-    """All that is tried by several logins. `leave_out` hears what can't be tried."""
+def all_trials(work: Path, leave_out: Callable[[str, LeftOut], None], many: int) -> Told:
+    """All that is tried by several logins. `leave_out` hears what can't be tried; `many` rows hands in each of ten who
+    do so at once."""
     with logins.made("desk", "anna", "bert", "look", "www", "nobody") as people:
         owner, anna, bert, looks, proxy, stranger = people
         home, place = work / "home", work / "place"
@@ -254,6 +261,17 @@ def all_trials(work: Path, leave_out: Callable[[str, LeftOut], None]) -> Told:
             yield from odd_trials(path, anna, bert, proxy, desk)
             yield from in_its_place_trials(anna, work)
             yield from two_trials(path, office, anna, bert, proxy)
+
+            def browsers() -> list[Visitor]:
+                """A browser of anna's by a link, and one by a proxy."""
+                return [Visitor(anna, path).came_in(), named_by(proxy, path, anna)]
+
+            yield from door_commands.all_trials(work, path, people, desk, browsers)
+            at_links = Path(f"{path}.link")
+            programs = [Visitor(login, at_links) for login in (anna, looks, proxy, stranger)]
+            programs[2].headers = {HEADER: anna.name}
+            yield from door_machines.machine_trials(programs, Visitor(anna, path).came_in())
+            yield from door_machines.client_trials(path, work, anna, looks)
             for what, trials in (
                 ("nginx", real_servers.nginx_trials(work, path, proxy, [anna, looks, stranger])),
                 ("ssh", real_servers.ssh_trials(work, path, [anna, looks, stranger])),
@@ -263,7 +281,7 @@ def all_trials(work: Path, leave_out: Callable[[str, LeftOut], None]) -> Told:
                 except LeftOut as why:
                     leave_out(f"a desk behind {what}", why)
             yield from end_trials(path, office, anna, bert, desk)
-            yield from many_trials(path, office, [anna, bert, anna], desk)
+            yield from many_trials(path, office, [anna, bert], desk, many)
         finally:
             status = desk.end()
         yield "Ctrl-C ends it", differs(status, 0)
@@ -273,13 +291,42 @@ def all_trials(work: Path, leave_out: Callable[[str, LeftOut], None]) -> Told:
         status, said = owner.day("audit", "--second", "--office", office)
         yield "audit of the folder", None if ": 0 differences" in said else (status, said)
         yield "no key or cookie in the log", [word for word in Visitor.secrets if word in desk.said()]
+        yield from lived_trials(work, owner, anna)
 
 
-def settings_of(office: Path, people: dict[str, str]) -> None:
-    """Puts people into office.ini, and lets changes by hand wait for a second one."""
+def lived_trials(work: Path, owner: Login, anna: Login) -> Told:
+    """The week by commands at a desk of its own, and on a folder."""
+    home, path = work / "home", work / "place" / "week.sock"
+    for office in (home / "week", home / "beside"):
+        status, said = owner.day("init", office, WEEK / "monday.csv", LOGNAME=owner.name)
+        assert status == 0, said
+        settings_of(office, {owner.name: "The desk: proxy", anna.name: "Anna Berg: all"}, "release")
+    desk = SocketDesk(owner, home / "week", path, work / "week.log")
+    try:
+        yield from door_week.week_trials(work, owner, anna, (path, home / "week"), home / "beside")
+    finally:
+        desk.end()
+    desk = SocketDesk(owner, home / "week", path, work / "look.log", "--look")
+    try:
+        yield from door_commands.look_trials(path, home / "week", anna)
+        told = Visitor(anna, Path(f"{path}.link")).ask("POST", "/hand-in.json", b"{}", [door_machines.JSON])
+        yield "a program changes nothing there", told.wrong(403)
+    finally:
+        desk.end()
+
+
+def named_by(proxy: Login, path: Path, login: Login) -> Visitor:
+    """A browser that comes by a proxy, which names this login."""
+    own = Visitor(proxy, path, **{HEADER: login.name})
+    own.get("/")
+    return own
+
+
+def settings_of(office: Path, people: dict[str, str], waits: str = "change") -> None:
+    """Puts people into office.ini, and lets changes by hand, or others, wait for a second one."""
     lines = [f"{name} = {words}\n" for name, words in people.items()]
     with open(office / "office.ini", "a", encoding="utf-8") as settings:
-        settings.write("".join(["[people]\n", *lines, "[four eyes]\ncommands = change\n"]))
+        settings.write("".join(["[people]\n", *lines, f"[four eyes]\ncommands = {waits}\n"]))
 
 
 def people_of(*people: Login) -> dict[str, str]:
@@ -332,6 +379,11 @@ def stranger_trials(path: Path, anna: Login, stranger: Login, looks: Login) -> T
         yield f"a form of a stranger, {where}", nobody.post(where, {"who": anna.name}).wrong(403)
     held = [Holding(stranger, path) for _ in range(12)]
     yield "strangers who hold connections open hold up nobody", own.get("/").wrong(403)
+    for each in held:
+        each.end()
+    held = [Holding(looks, path) for _ in range(2 * MOST_OPEN)]
+    yield "nor does one of those whom office.ini names", own.get("/").wrong(403)
+    yield "who has no more connections then", Visitor(looks, path).get("/").wrong(0, 403)
     for each in held:
         each.end()
     status, said = nobody.link()
@@ -547,45 +599,71 @@ def end_trials(path: Path, office: Path, anna: Login, bert: Login, desk: SocketD
 
 # Several at once.
 
-# How many rows each of them hands in, and from which amount on: each has another one.
-ROWS, FIRST = 4, 1_000
+# From which amount on each of them hands in: each has others.
+FIRST = 1_000
+# What a person hands in by words or as a program, one after another, each until it is told as handed in, run as this
+# login: a kill of the server is no answer.
+HAND_IN = """
+import contextlib, http.client, io, json, os, socket, sys, time
+sys.path.insert(0, sys.argv[1])
+from registry_tools import main, streams
+path, way, begin, count = sys.argv[2], sys.argv[3], int(sys.argv[4]), int(sys.argv[5])
+row = 'do,2025-09-23,5101,5102,transfer,100210,300118,general,{}\\n'
+def by_words(text):
+    said = io.StringIO()
+    sys.stdin = io.TextIOWrapper(io.BytesIO(text.encode()))
+    from registry_tools.texts import rows
+    rows.read_once.cache_clear()
+    with contextlib.redirect_stdout(said), contextlib.redirect_stderr(said):
+        main.main(['--desk', path, 'hand-in', '-'])
+    return said.getvalue()
+def by_program(text):
+    own = http.client.HTTPConnection('localhost', timeout=600)
+    own.sock = socket.socket(socket.AF_UNIX)
+    own.sock.settimeout(600)
+    own.sock.connect(path + '.link')
+    sent = json.dumps({'files': [{'name': 'many.csv', 'text': text}]})
+    own.request('POST', '/hand-in.json', sent, {'Content-Type': 'application/json'})
+    return json.dumps(json.load(own.getresponse()))
+until = time.monotonic() + 2400
+for amount in range(begin, begin + count):
+    while time.monotonic() < until:
+        try:
+            said = (by_words if way == 'words' else by_program)(row.format(amount))
+        except (OSError, http.client.HTTPException, ValueError):
+            said = ''
+        if 'handed in' in said or 'handed_in' in said:
+            break
+        time.sleep(0.2)
+    print(amount, flush=True)
+"""
 
 
-def many_trials(path: Path, office: Path, people: list[Login], desk: SocketDesk) -> Told:
-    """Several hand in at once, each row until it is told as handed in, and the server is killed meanwhile: nothing is
-    lost, nothing stands twice, and each row is of the login that handed it in."""
-    told: list[tuple[str, int]] = []
-    amounts = {place: range(FIRST * (place + 1), FIRST * (place + 1) + ROWS) for place in range(len(people))}
-    threads = [
-        threading.Thread(target=hand_in_all, args=(Visitor(login, path), amounts[place], told))
-        for place, login in enumerate(people)
+def many_trials(path: Path, office: Path, people: list[Login], desk: SocketDesk, rows: int) -> Told:
+    """Ten people at once hand in, half of them by words and half as programs, and the server is killed meanwhile,
+    twice: nothing is lost, nothing stands twice, and each row is of the login that handed it in."""
+    ways = [
+        (people[place // 2 % len(people)], "words" if place % 2 else "program", FIRST * (place + 1))
+        for place in range(10)
     ]
-    for thread in threads:
-        thread.start()
-    until = time.monotonic() + MOST_SECONDS
-    while len(told) < len(people) and time.monotonic() < until:
-        time.sleep(0.05)
-    desk.kill_server()
-    for thread in threads:
-        thread.join()
-    wanted = sorted((people[place].name, amount) for place, own in amounts.items() for amount in own)
-    yield "all was handed in", differs(sorted(told), wanted)
+    line = [sys.executable, "-I", "-c", HAND_IN, str(PYTHON), str(path)]
+    begun = [
+        subprocess.Popen(
+            ["setpriv", f"--reuid={login.user}", f"--regid={login.group}", "--clear-groups", *line, way, str(first),
+             str(rows)], stdout=subprocess.PIPE, stderr=subprocess.PIPE, text=True, cwd="/",
+        )
+        for login, way, first in ways
+    ]  # fmt: skip
+    for _ in range(2):
+        # (some of them are at work)
+        for process in begun[:2]:
+            assert process.stdout is not None
+            process.stdout.readline()
+        desk.kill_server()
+    ends = [process.communicate()[1] for process in begun]
+    yield "all of them have ended", [end[-900:] for process, end in zip(begun, ends) if process.returncode]
+    wanted = sorted((login.name, amount) for login, _, first in ways for amount in range(first, first + rows))
     yield "each once, by its login", differs(sorted(handed_in(office)), wanted)
-
-
-def hand_in_all(who: Visitor, amounts: range, told: list[tuple[str, int]]) -> None:
-    """Hands rows in, each until it is there: who comes late looks once more, and who is out comes in again."""
-    for amount in amounts:
-        until = time.monotonic() + 4 * MOST_SECONDS
-        while time.monotonic() < until:
-            with contextlib.suppress(AssertionError):
-                if not who.cookies or who.get("/").status != 200:
-                    who.came_in()
-                looked = who.send("/hand-in", "/hand-in/look", [("many.csv", ROW.format(amount).encode())])
-                if "was handed in" in looked.text or "handed in: " in who.yes(looked, "/hand-in/take").text:
-                    told.append((who.login.name, amount))
-                    break
-            time.sleep(0.3)
 
 
 def handed_in(office: Path) -> Iterator[tuple[str, int]]:

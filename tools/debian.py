@@ -1,6 +1,6 @@
-"""Makes packages for Debian of an unpacked archive of a version, by dpkg-deb: registry, libregistry1, libregistry-dev
-and python3-registry. None has a script that runs when it is installed; before they go, those with Python let what
-Python has made of it be taken away.
+"""Makes packages for Debian of an unpacked archive of a version, by dpkg-deb: registry, libregistry1, libregistry-dev,
+python3-registry and registry-desk. The last one makes the login of a desk when it is installed, and no other one has a
+script that runs then; before they go, those with Python let what Python has made of it be taken away.
 
 usage: debian.py ARCHIVE FOLDER
 """
@@ -27,6 +27,8 @@ MAINTAINER = "Duqisway maintainers <maintainers@users.noreply.duqisway.example>"
 PYTHON = "usr/lib/python3/dist-packages"
 # What the commands find useful beside them.
 ASKS = "Recommends: python3-registry\nSuggests: python3-flask, python3-waitress, python3-gunicorn\n"
+# What makes the login of a desk, where systemd is not there to do it.
+LOGINS = "systemd | systemd-standalone-sysusers, systemd | systemd-standalone-tmpfiles"
 # The long lines of a description.
 ENGINE = """\
  It settles one day of an allowance registry: who gets which allowances, what
@@ -79,6 +81,13 @@ def packages(archive: Path, full: str) -> Iterator[Package]:
         "python3-registry", "python", f"{same}, python3 (>= 3.9)",
         "settlement engine of an allowance registry: calls for Python",
         ENGINE + " .\n This package has the calls of the library for Python.\n",
+    )  # fmt: skip
+    yield Package(
+        "registry-desk", "science", f"registry (= {full}), python3-flask, python3-waitress, python3-gunicorn, {LOGINS}",
+        "desk of an emission allowance registry, as a service",
+        " Several people work at one registry: the system says who comes to a socket.\n .\n"
+        " This package has the login of the desk and its service of systemd, which has no\n"
+        " network, no homes and one folder that it writes. It is started by hand.\n", True,
     )  # fmt: skip
 
 
@@ -169,6 +178,16 @@ class Tree:
         self.write(f"{about}/INSTALLER", "debian\n")
         self.write("DEBIAN/prerm", PRERM.format(name=self.own.name, folder=f"{PYTHON}/registry"))
 
+    def fill_registry_desk(self) -> None:
+        source = "share/doc/registry/examples/desk"
+        self.put(f"{source}/registry-desk.service", "usr/lib/systemd/system/registry-desk.service")
+        for name in ("README.md", "nginx.conf"):
+            self.put(f"{source}/{name}", f"usr/share/doc/registry-desk/{name}")
+        self.write("usr/lib/sysusers.d/registry-desk.conf", SYSUSERS)
+        self.write("usr/lib/tmpfiles.d/registry-desk.conf", TMPFILES)
+        self.write("DEBIAN/postinst", POSTINST)
+        self.write("DEBIAN/prerm", PRERM_OF_DESK)
+
     def control(self, architecture: str) -> str:
         size = sum(path.lstat().st_size for path in self.folder.rglob("*") if not path.is_dir())
         same = "Multi-Arch: same\n" if self.own.name.startswith("lib") else ""
@@ -190,7 +209,7 @@ class Tree:
         packages."""
         for path in [*self.folder.rglob("*"), self.folder]:
             if not path.is_symlink():
-                runs = path.is_dir() or path.parent.name == "bin" or path.name == "prerm"
+                runs = path.is_dir() or path.parent.name == "bin" or path.name in ("postinst", "prerm")
                 path.chmod(0o755 if runs else 0o644)
             os.utime(path, (moment(), moment()), follow_symlinks=False)
 
@@ -218,7 +237,8 @@ A first day, from a folder of your own:
 MANIFEST beside this file says what is proved, by which kit, and at which
 commit. registry(1) and registry-day(1) are the manuals, registry-day-text(5)
 tells the texts. For the desk: apt install python3-flask python3-waitress.
-examples/desk/README.md has several people work at it, by a service of systemd.
+The package registry-desk has several people work at it, by a service of
+systemd: examples/desk/README.md.
 """
 # What Python has made of its modules goes, so that nothing is left behind.
 PRERM = """\
@@ -228,6 +248,28 @@ if command -v py3clean >/dev/null; then
   py3clean -p {name} /{folder}
 else
   find /{folder} -depth -name __pycache__ -exec rm -rf {{}} +
+fi
+"""
+# The login of a desk, and its folder, which nobody else opens.
+SYSUSERS = 'u registry - "The desk of an allowance registry" /var/lib/registry\n'
+TMPFILES = "d /var/lib/registry 0700 registry registry -\n"
+POSTINST = """\
+#!/bin/sh
+set -e
+if [ "$1" = configure ]; then
+  systemd-sysusers registry-desk.conf
+  systemd-tmpfiles --create registry-desk.conf
+  if [ -d /run/systemd/system ]; then
+    systemctl daemon-reload
+  fi
+fi
+"""
+# (the folder and the login stay: what is registered is there)
+PRERM_OF_DESK = """\
+#!/bin/sh
+set -e
+if [ "$1" = remove ] && [ -d /run/systemd/system ]; then
+  systemctl disable --now registry-desk.service
 fi
 """
 # The head of a version in CHANGELOG.md, with its day.

@@ -2,6 +2,7 @@
 import os
 from pathlib import Path
 
+from registry_tools.elsewhere import Elsewhere
 from registry_tools.errors import FileFault
 
 SETTINGS, STORE, PAPERS = "office.ini", "registry.sqlite", "days"
@@ -10,6 +11,8 @@ OWN = {SETTINGS, STORE, *(f"{STORE}{end}" for end in ("-journal", "-wal", "-shm"
 
 def must_not_be_of_folder(path: str | Path) -> None:
     """Ends the command if an answer would be written over a file of a folder of days."""
+    if isinstance(path, Elsewhere):
+        return
     real = Path(os.path.realpath(path))
     for folder in real.parents:
         if real.relative_to(folder).parts[0] in OWN and (folder / SETTINGS).is_file():

@@ -13,6 +13,7 @@ import stat
 from collections.abc import Iterator
 from pathlib import Path
 
+from registry_tools.elsewhere import bounds, must_be_here
 from registry_tools.errors import FileFault
 
 FOLDER = os.O_RDONLY | os.O_DIRECTORY
@@ -43,11 +44,18 @@ def below(path: str | Path) -> tuple[str, list[str]] | None:
     return None if root is None else (root, whole[len(root) + 1 :].split("/"))
 
 
+def must_be_within(path: str | Path) -> None:
+    """Ends a command of somebody elsewhere at a path in no guarded folder. Raises OSError."""
+    if bounds.is_for_others and below(path) is None:
+        must_be_here(path)
+
+
 @contextlib.contextmanager
 def at(path: str | Path) -> Iterator[tuple[int | None, str]]:
     """The folder in which a path lies, opened, and its name there; of a path in no guarded folder, None and the path.
     Raises OSError or LinkFault."""
     found = below(path)
+    must_be_within(path)
     if found is None:
         yield None, os.fspath(path)
         return

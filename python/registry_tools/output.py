@@ -11,6 +11,7 @@ from collections.abc import Iterator
 from types import TracebackType
 
 from registry_tools import opening, steps
+from registry_tools.elsewhere import Elsewhere, must_be_here
 from registry_tools.errors import FileFault, UnwrittenFault, of_file
 from registry_tools.layout import must_not_be_of_folder
 from registry_tools.notes import LOOK
@@ -45,7 +46,11 @@ def write_all(file: int, content: bytes) -> None:
 
 
 def must_be_writable(path: str | Path) -> None:
-    """Ends the command if a file may not be written, before any work is done for it."""
+    """Ends the command if a file may not be written, before any work is done for it. (Of one elsewhere, that is known
+    there.)"""
+    if isinstance(path, Elsewhere):
+        return
+    must_be_here(path)
     must_be_no_link(path)
     must_not_be_of_folder(path)
     own = Path(path)
@@ -119,7 +124,12 @@ def keep_name(path: Path) -> None:
 @contextlib.contextmanager
 def made_aside(path: str | Path, mode: int = 0o666) -> Iterator[Path]:
     """A new file, which the block fills by its own ways, as SQLite does. It gets the name `path` behind the block, also
-    if the machine stops then, if nothing goes wrong there. Raises FileFault if it can't be written."""
+    if the machine stops then, if nothing goes wrong there; or it is sent. Raises FileFault if it can't be written."""
+    if isinstance(path, Elsewhere):
+        made = path.caller.aside / "made"
+        yield made
+        path.caller.write(path, made)
+        return
     own = Path(path)
     beside = own.absolute().parent / name_beside(own.name)
     remove_left(beside.parent)
@@ -151,6 +161,7 @@ class NewFolder:
         self.beside = self.path / name if self.is_there else self.path.parent / name
 
     def __enter__(self) -> "NewFolder":
+        opening.must_be_within(self.path)
         must_not_be_of_folder(self.path)
         remove_left(self.beside.parent)
         # (of a process that had the number of this one)
@@ -198,6 +209,9 @@ class NewFolder:
         finally:
             shutil.rmtree(self.beside, ignore_errors=True)
 
+    def have_all_there(self) -> None:
+        """Has all that was written so far be where it goes, under another name still."""
+
     def keep(self) -> None:
         """Puts the folder in its place, or what is in it into a folder that is there. Raises OSError."""
         steps.hold()
@@ -218,6 +232,30 @@ class NewFolder:
                 os.rename(self.path / name, self.beside / name)
             steps.let_go()
             raise
+
+
+class SentFolder(NewFolder):
+    """A folder that is made elsewhere: its files are written aside here, and sent before it gets its name there."""
+
+    def __init__(self, path: Elsewhere) -> None:
+        super().__init__(path.caller.aside / "made")
+        self.own, self.is_sent = path, False
+
+    def have_all_there(self) -> None:
+        """Sends all that was written. Raises OSError if that cannot be."""
+        if not self.is_sent:
+            self.own.caller.write_folder(self.own, self.beside)
+            self.is_sent = True
+
+    def keep(self) -> None:
+        """Gives it its name there. Raises OSError."""
+        self.have_all_there()
+        self.own.caller.keep_folder(self.own)
+
+
+def new_folder(path: str | Path) -> NewFolder:
+    """A folder that is made at a path, or elsewhere."""
+    return SentFolder(path) if isinstance(path, Elsewhere) else NewFolder(path)
 
 
 class NewFile:
@@ -263,6 +301,26 @@ class NewFile:
             self.beside.unlink()
 
 
+class SentFile(NewFile):
+    """A file that is written elsewhere."""
+
+    def __init__(self, path: Elsewhere, text: str | bytes) -> None:
+        self.own = path
+        self.content = text if isinstance(text, bytes) else text.encode("utf-8", "surrogateescape")
+
+    def keep(self) -> None:
+        """Sends it. Raises OSError if that cannot be."""
+        self.own.caller.write(self.own, self.content)
+
+    def forget(self) -> None:
+        """Does nothing: what was not sent is not there."""
+
+
+def new_file(path: str, text: str | bytes) -> NewFile:
+    """A file that is written at a path, or elsewhere."""
+    return SentFile(path, text) if isinstance(path, Elsewhere) else NewFile(path, text)
+
+
 def write_answer(text: str, to: str | None, *others: NewFile) -> None:
     """Writes what a command answers: to standard output, or whole to a file. The other files get their names if that
     could be written, and else stay as they were."""
@@ -272,7 +330,7 @@ def write_answer(text: str, to: str | None, *others: NewFile) -> None:
             sys.stdout.write(text)
             sys.stdout.flush()
         else:
-            files.append(NewFile(to, text))
+            files.append(new_file(to, text))
         for file in files:
             file.keep()
     except BaseException:

@@ -9,9 +9,9 @@ it is not there; keep it where others can't change it, or send the line to someb
 If office.ini names a key ([anchor] key = PATH), ssh-keygen signs the line by it.
 """
 import argparse
-from pathlib import Path
 
 from registry_tools.cli import words
+from registry_tools.elsewhere import Grown
 from registry_tools.office import anchors, folder
 from registry_tools.layout import must_not_be_of_folder
 from registry_tools.output import write_answer
@@ -22,7 +22,7 @@ EXAMPLE = "./day anchor --to out/anchors.csv --office out/office"
 def add_words(parser: argparse.ArgumentParser) -> None:
     """Tells a parser the words of the command."""
     # (not as `--to` of other commands, which begins a file anew)
-    parser.add_argument("--to", dest="kept", metavar="FILE", help="put the line behind those of this file")
+    parser.add_argument("--to", dest="kept", metavar="FILE", type=Grown, help="put the line behind those of this file")
     words.add_office(parser)
 
 
@@ -34,5 +34,5 @@ def run(said: argparse.Namespace) -> int:
         write_answer(f"{anchor.row()}\n", None)
         return 0
     must_not_be_of_folder(said.kept)
-    print(f"{said.kept}: anchors {anchors.keep(Path(said.kept), anchor)}, the last one of {head}")
+    print(f"{said.kept}: anchors {anchors.keep(said.kept, anchor)}, the last one of {head}")
     return 0

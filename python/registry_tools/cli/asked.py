@@ -11,6 +11,7 @@ from typing import TypeVar
 from registry_tools import tables
 from registry_tools.calendars.dates import date_of
 from registry_tools.cli import answers
+from registry_tools.elsewhere import Source
 from registry_tools.errors import WordsFault, shown
 from registry_tools.office import folder
 from registry_tools.pairs import naming
@@ -38,7 +39,7 @@ def add_words(parser: argparse.ArgumentParser) -> None:
     """Tells a parser the words of the command."""
     parser.add_argument("--office", metavar="FOLDER", help=folder.WHERE)
     pairs = "day texts, each with its report behind it, in place of a folder"
-    parser.add_argument("--pairs", metavar="DAY REPORT", nargs="+", help=pairs)
+    parser.add_argument("--pairs", metavar="DAY REPORT", type=Source, nargs="+", help=pairs)
 
 
 @contextlib.contextmanager

@@ -27,6 +27,7 @@ import sys
 
 from registry_tools import showing, tables
 from registry_tools.cli import answers, asked, words
+from registry_tools.elsewhere import Source
 from registry_tools.errors import FOUND
 from registry_tools.notes import LOOK
 from registry_tools.office import folder
@@ -45,7 +46,8 @@ def add_words(parser: argparse.ArgumentParser) -> None:
     parser.add_argument("--from", dest="begin", metavar="DATE", help="read the pairs from this day on")
     parser.add_argument("--since", metavar="HEAD", help="look whether the folder has grown from this head")
     parser.add_argument("--date", metavar="DATE", help="the last day of the state with the head of --since")
-    parser.add_argument("--anchors", metavar="FILE", help="look whether it has grown from each of these anchors")
+    anchors = "look whether it has grown from each of these anchors"
+    parser.add_argument("--anchors", metavar="FILE", type=Source, help=anchors)
     words.add_office(parser)
     answers.add_words(parser)
 

@@ -18,6 +18,7 @@ exit status: 0 if nothing was found, else 1.
 """
 import argparse
 
+from registry_tools.elsewhere import Source
 from registry_tools.engine import settler_of
 from registry_tools.errors import FOUND, WordsFault
 from registry_tools.notes import counted
@@ -34,10 +35,10 @@ EXAMPLE = (
 def add_words(parser: argparse.ArgumentParser) -> None:
     """Tells a parser the words of the command."""
     pairs = "day texts, each with its report behind it, in order"
-    parser.add_argument("files", metavar="DAY REPORT", nargs="+", help=pairs)
+    parser.add_argument("files", metavar="DAY REPORT", type=Source, nargs="+", help=pairs)
     add_engine(parser, "--settle", "settle each day again: by a program, such as ./run, or else the library")
     changes = "files that were given to ./day next as changes"
-    parser.add_argument("--changes", metavar="FILE", nargs="+", default=[], help=changes)
+    parser.add_argument("--changes", metavar="FILE", type=Source, nargs="+", default=[], help=changes)
     add_to(parser)
 
 

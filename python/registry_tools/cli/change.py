@@ -18,6 +18,7 @@ from collections.abc import Iterator
 
 from registry_tools import tables, voice
 from registry_tools.cli import asked as asking, words
+from registry_tools.elsewhere import Source
 from registry_tools.errors import FOUND, WordsFault
 from registry_tools.office import change, folder, handed
 from registry_tools.pairs import edits
@@ -60,7 +61,7 @@ def add_words(parser: argparse.ArgumentParser) -> None:
     parser.add_argument("--yes", action="store_true", help="make the change count")
     words.add_office(parser)
     paths = "a day with its report, in place of a folder"
-    parser.add_argument("--pairs", metavar=("DAY", "REPORT"), nargs=2, help=paths)
+    parser.add_argument("--pairs", metavar=("DAY", "REPORT"), type=Source, nargs=2, help=paths)
     words.add_who(parser)
     parser.add_argument("--why", metavar="WORDS", help="the reason, which is kept: a folder needs it")
     add_to(parser)

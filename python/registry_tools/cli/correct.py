@@ -19,6 +19,7 @@ import argparse
 
 from registry_tools.calendars import dates
 from registry_tools.cli import papers, words
+from registry_tools.elsewhere import Source
 from registry_tools.errors import FOUND, Fault
 from registry_tools.office import folder
 from registry_tools.office.correct import Correct, Corrected, Shown, correct
@@ -32,7 +33,9 @@ def add_words(parser: argparse.ArgumentParser) -> None:
     without = "a record that is left out, of this day or a later one"
     parser.add_argument("--without", metavar="RECORD", type=int, nargs=1, action="extend", default=[], help=without)
     more = "do rows, account blocks or work rows that are handed in for this day as well"
-    parser.add_argument("--with", dest="files", metavar="FILE", nargs=1, action="extend", default=[], help=more)
+    parser.add_argument(
+        "--with", dest="files", metavar="FILE", type=Source, nargs=1, action="extend", default=[], help=more
+    )
     parser.add_argument("--verify", action="store_true", help="work out all accounts once more")
     parser.add_argument("--second", action="store_true", help="settle by the second answer, without the program")
     parser.add_argument("--yes", action="store_true", help="make it count")

@@ -8,6 +8,7 @@ something is wrong.
 import argparse
 
 from registry_tools.cli import asked
+from registry_tools.elsewhere import Grown
 from registry_tools.output import must_be_writable
 from registry_tools.questions import db
 
@@ -16,7 +17,7 @@ EXAMPLE = "./day db out/days.sqlite --office out/office"
 
 def add_words(parser: argparse.ArgumentParser) -> None:
     """Tells a parser the words of the command."""
-    parser.add_argument("file", metavar="FILE", help="the database")
+    parser.add_argument("file", metavar="FILE", type=Grown, help="the database")
     asked.add_words(parser)
 
 

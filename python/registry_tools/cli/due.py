@@ -21,8 +21,9 @@ import argparse
 
 from registry_tools import tables
 from registry_tools.cli import answers, asked, words
+from registry_tools.elsewhere import Target
 from registry_tools.office import folder
-from registry_tools.output import NewFile
+from registry_tools.output import new_file
 from registry_tools.questions import due
 
 EXAMPLE = "./day due --until 2025-10-31 --office out/office"
@@ -32,7 +33,7 @@ COLUMNS = tables.COLUMNS["due"]
 def add_words(parser: argparse.ArgumentParser) -> None:
     """Tells a parser the words of the command."""
     parser.add_argument("--until", metavar="DATE", help="the last day that is shown")
-    parser.add_argument("--ics", metavar="FILE", help="write a calendar to this file")
+    parser.add_argument("--ics", metavar="FILE", type=Target, help="write a calendar to this file")
     words.add_office(parser)
     answers.add_words(parser)
 
@@ -43,7 +44,7 @@ def run(said: argparse.Namespace) -> int:
         until = asked.date_or("--until", said.until, due.last_shown(office))
         found, names = due.due_until(office, until), office.names()
     if said.ics is not None:
-        NewFile(said.ics, due.as_calendar(found, until)).keep()
+        new_file(said.ics, due.as_calendar(found, until)).keep()
         print(f"{said.ics}: entries {len(found)}")
         return 0
     rows = [own.cells() for own in (found if answers.is_for_programs(said) else due.folded(found))]

@@ -9,6 +9,7 @@
 import argparse
 
 from registry_tools import showing
+from registry_tools.elsewhere import Target
 from registry_tools.errors import WordsFault
 from registry_tools.cli.options import add_pair, add_to, is_same_file
 from registry_tools.output import write_answer
@@ -28,7 +29,7 @@ def add_words(parser: argparse.ArgumentParser) -> None:
     for name in WHAT:
         what.add_argument(f"--{name}", dest="what", action="store_const", const=name, help=f"the table of {name}")
     parser.add_argument("--year", type=int, metavar="Y", help="the year of --compliance")
-    parser.add_argument("--xlsx", metavar="FILE", help="write a workbook")
+    parser.add_argument("--xlsx", metavar="FILE", type=Target, help="write a workbook")
     add_to(parser)
 
 

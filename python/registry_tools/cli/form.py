@@ -11,6 +11,7 @@ import sys
 from collections.abc import Iterator
 
 from registry_tools import showing
+from registry_tools.elsewhere import Target
 from registry_tools.errors import WordsFault
 from registry_tools.texts.labels import COLUMNS as LABEL_COLUMNS
 from registry_tools.texts.labels import KINDS as LABEL_KINDS
@@ -32,7 +33,7 @@ OF_LABELS = {"kind": ", ".join(LABEL_KINDS), "number": "its number", "name": "it
 def add_words(parser: argparse.ArgumentParser) -> None:
     """Tells a parser the words of the command."""
     parser.add_argument("what", metavar="ACT", choices=WHAT, help=f"one of {', '.join(WHAT)}")
-    parser.add_argument("--xlsx", metavar="FILE", help="write a workbook")
+    parser.add_argument("--xlsx", metavar="FILE", type=Target, help="write a workbook")
     add_to(parser)
 
 

@@ -15,6 +15,7 @@ exit status: 0 if nothing of it would be refused, 1 if something would.
 import argparse
 
 from registry_tools.cli import importing, trial, words
+from registry_tools.elsewhere import Source
 from registry_tools.office import folder, hand_in, handed
 from registry_tools.office.hand_in import HandIn
 from registry_tools.office.handed import places
@@ -26,7 +27,8 @@ EXAMPLE = "./day hand-in examples/week/tuesday-do.csv examples/week/tuesday-work
 
 def add_words(parser: argparse.ArgumentParser) -> None:
     """Tells a parser the words of the command."""
-    parser.add_argument("files", metavar="FILE", nargs="+", help="do rows, work rows or account blocks, or a table")
+    files = "do rows, work rows or account blocks, or a table"
+    parser.add_argument("files", metavar="FILE", type=Source, nargs="+", help=files)
     again = "a row that is meant once more, by its line, or by the place of the one that was handed in"
     parser.add_argument("--again", metavar="FILE:LINE|PLACE", nargs=1, default=[], help=again)
     kinds = parser.add_mutually_exclusive_group()

@@ -26,6 +26,7 @@ import argparse
 import sys
 
 from registry_tools.cli.options import add_to
+from registry_tools.elsewhere import Source
 from registry_tools.errors import FILE
 from registry_tools.output import write_answer
 from registry_tools.sheets import importing, sheets
@@ -40,7 +41,7 @@ MOST_SHOWN = 5
 
 def add_words(parser: argparse.ArgumentParser) -> None:
     """Tells a parser the words of the command."""
-    parser.add_argument("file", metavar="FILE", help="csv, .xlsx or .ods")
+    parser.add_argument("file", metavar="FILE", type=Source, help="csv, .xlsx or .ods")
     kinds = parser.add_mutually_exclusive_group()
     kinds.add_argument("--instructions", action="store_true", help="the rows are instructions")
     kinds.add_argument("--accounts", action="store_true", help="the rows are accounts, as with a column no")
@@ -51,7 +52,7 @@ def add_words(parser: argparse.ArgumentParser) -> None:
 def add_forms(parser: argparse.ArgumentParser) -> None:
     """The words that tell how a table is written."""
     parser.add_argument("--dates", metavar="31.12.2026", help="how the last day of 2026 is written in this file")
-    parser.add_argument("--mapping", metavar="FILE", help="the columns and words of a table of others")
+    parser.add_argument("--mapping", metavar="FILE", type=Source, help="the columns and words of a table of others")
 
 
 def run(said: argparse.Namespace) -> int:

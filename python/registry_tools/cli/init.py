@@ -10,6 +10,7 @@ from pathlib import Path
 
 from registry_tools import voice
 from registry_tools.cli import words
+from registry_tools.elsewhere import Source
 from registry_tools.office import folder
 from registry_tools.office.init import Init, change_first, init
 from registry_tools.layout import SETTINGS
@@ -20,7 +21,7 @@ EXAMPLE = "./day init out/office examples/week/monday.csv"
 def add_words(parser: argparse.ArgumentParser) -> None:
     """Tells a parser the words of the command."""
     parser.add_argument("folder", metavar="FOLDER", help="the folder that is made")
-    parser.add_argument("first", metavar="FIRST_DAY", help="the first day text")
+    parser.add_argument("first", metavar="FIRST_DAY", type=Source, help="the first day text")
     without = "the program that settles; without it, the library if it was built, else ./run"
     parser.add_argument("--program", metavar="PATH", default="", help=without)
     parser.add_argument("--statements", action="store_true", help="close makes statements, too")

@@ -17,6 +17,7 @@ from collections.abc import Iterator
 
 from registry_tools import showing, tables
 from registry_tools.cli import answers, words
+from registry_tools.elsewhere import Source
 from registry_tools.errors import WordsFault
 from registry_tools.notes import first_of
 from registry_tools.office import folder, label
@@ -34,8 +35,8 @@ def add_words(parser: argparse.ArgumentParser) -> None:
     parser.add_argument("named", metavar="KIND NUMBER NAME", nargs="*", help=one)
     ways = parser.add_mutually_exclusive_group()
     ways.add_argument("--remove", action="store_true", help="it has no name any more")
-    ways.add_argument("--file", metavar="FILE", help="the names of a file")
-    parser.add_argument("--mapping", metavar="FILE", help="the columns and words of a table of others")
+    ways.add_argument("--file", metavar="FILE", type=Source, help="the names of a file")
+    parser.add_argument("--mapping", metavar="FILE", type=Source, help="the columns and words of a table of others")
     words.add_named(parser)
     words.add_office(parser)
     words.add_who(parser)

@@ -14,11 +14,12 @@ import os
 import re
 import socket
 
+from registry_tools.cli.calling import VARIABLE
 from registry_tools.errors import WordsFault, shown
 
 EXAMPLE = "./day link --socket /run/registry/desk.sock"
-# The variable that names the socket for whoever names none; and the port that ssh leads to it.
-VARIABLE, PORT = "REGISTRY_DESK", 8424
+# The port that ssh leads to the socket.
+PORT = 8424
 # Behind the path of a socket, the one where links are made.
 LINKS = ".link"
 MOST_SECONDS = 30

@@ -25,6 +25,7 @@ import argparse
 
 from registry_tools.cli import answers
 from registry_tools.cli.options import is_day_named
+from registry_tools.elsewhere import Source
 from registry_tools.output import write_answer
 from registry_tools.pairs.log import COLUMNS, Log, log
 from registry_tools.texts.day_text import read_day
@@ -37,12 +38,12 @@ def add_words(parser: argparse.ArgumentParser) -> None:
     """Tells a parser the words of the command."""
     is_named = is_day_named(parser)
     if not is_named:
-        parser.add_argument("reports", metavar="REPORT", nargs="+", help="a report")
+        parser.add_argument("reports", metavar="REPORT", type=Source, nargs="+", help="a report")
     parser.add_argument("--refused", action="store_true", help="only what was refused")
     parser.add_argument("--account", type=int, metavar="N", help="only rows with this account")
     texts_of = "the day texts of reports, for due days; or dates of days of a folder, in place of reports"
     if not is_named:
-        parser.add_argument("--day", dest="days", metavar="DAY", nargs="+", default=[], help=texts_of)
+        parser.add_argument("--day", dest="days", metavar="DAY", type=Source, nargs="+", default=[], help=texts_of)
     answers.add_words(parser)
 
 

@@ -8,12 +8,13 @@ import re
 import signal
 import sqlite3
 import sys
+from collections.abc import Callable
 from pathlib import Path
 from typing import Protocol, cast
 
 from registry_tools import outcomes, steps, streams, tables, voice
 from registry_tools.errors import FILE, NOT_WRITTEN, Fault, FileFault
-from registry_tools.cli import named_day
+from registry_tools.cli import calling, named_day
 from registry_tools.cli.options import Words, look_at_files
 from registry_tools.progress import progress
 
@@ -76,6 +77,7 @@ The office round the program: the work of each day that needs no proof.
 TAIL = """
 There `--day DATE` stands in place of the paths of a day and its report: verify, statements, compliance, page, log,
 explain, export.
+./day --desk PATH COMMAND .. gives it at the socket of a desk, with files of here (./day desk --help).
 ./day COMMAND --help explains a command, with an example. ./day --version tells the version.
 
 exit status: 0 it is as it has to be, 1 something was found, 2 the words do not fit, 3 a file is not what it must be:
@@ -87,6 +89,8 @@ take all, or standard input is a folder. 130 somebody interrupted it.
 # Behind this word stands the folder of a desk, in whose words all is told, and a file into which the command writes
 # what came of it.
 FOR_DESK = "--for-desk"
+# Behind this word stands the socket of a desk, which carries the command out.
+BY_DESK = "--desk"
 
 
 class Command(Protocol):
@@ -135,16 +139,32 @@ def module_of(name: str) -> Command:
     return cast(Command, importlib.import_module(f"registry_tools.{path}"))
 
 
-def run(name: str, arguments: list[str]) -> int:
-    """Runs a command. What it finds wrong is told on standard error."""
-    # (a book is a million small objects, none of which refers to itself: looking for such takes a third of the time)
-    gc.disable()
+def run(name: str, arguments: list[str], desk: str | None = None) -> int:
+    """Runs a command, here or by a desk. What it finds wrong is told on standard error."""
     module = module_of(name)
-    try:
+
+    def given() -> int:
         words = parser_of(name, module, named_day.is_named(name, arguments)).parse_args(arguments)
+        there = calling.desk_for(name, words, desk)
+        if there is not None:
+            look_at_files(words)
+            return calling.ask(there, name, arguments, words)
         with named_day.looked_up(name, words):
             look_at_files(words)
             return module.run(words)
+
+    return carry_out(name, given)
+
+
+def carry_out(name: str, command: Callable[[], int]) -> int:
+    """Runs a command, and answers its status. What it finds wrong is told on standard error."""
+    # (a book is a million small objects, none of which refers to itself: looking for such takes a third of the time)
+    gc.disable()
+    try:
+        with steps.of_command(name):
+            status = command()
+        sys.stdout.flush()
+        return status
     except SystemExit as end:
         # (the help was written, or the words are not taken)
         return int(end.code or 0)
@@ -153,6 +173,14 @@ def run(name: str, arguments: list[str]) -> int:
         outcomes.keep(fault)
         print(fault if isinstance(fault, FileFault) else f"{voice.command(name)}: {fault}", file=sys.stderr)
         return fault.status
+    except sqlite3.Error as error:
+        why = "another command may write the file just now, or it was changed"
+        print(f"{voice.command(name)}: {error}: {why}", file=sys.stderr)
+        return FILE
+    except OSError as error:
+        return cannot_go_on(voice.command(name), error)
+    except KeyboardInterrupt:
+        return 130
     finally:
         progress.clear()
 
@@ -196,23 +224,12 @@ def main(arguments: list[str]) -> int:
     if not arguments:
         print(help_text(), end="", file=sys.stderr)
         return 2
-    name, *rest = arguments
+    desk = arguments[1] if arguments[0] == BY_DESK and arguments[2:] else None
+    name, *rest = arguments if desk is None else arguments[2:]
     if name not in COMMANDS and name not in OFFICE_COMMANDS:
         print(f"{perhaps_meant(name)}{tool}: there is no command {name}; {tool} --help tells all", file=sys.stderr)
         return 2
-    try:
-        with steps.of_command(name):
-            status = run(name, rest)
-        sys.stdout.flush()
-        return status
-    except sqlite3.Error as error:
-        why = "another command may write the file just now, or it was changed"
-        print(f"{voice.command(name)}: {error}: {why}", file=sys.stderr)
-        return FILE
-    except OSError as error:
-        return cannot_go_on(voice.command(name), error)
-    except KeyboardInterrupt:
-        return 130
+    return run(name, rest, desk)
 
 
 def cannot_go_on(name: str, error: OSError) -> int:

@@ -8,9 +8,10 @@ Of an account without emissions of some year nobody knows how much is missing: i
 import argparse
 
 from registry_tools.cli import asked
+from registry_tools.elsewhere import Target
 from registry_tools.errors import WordsFault
 from registry_tools.cli.options import is_same_file
-from registry_tools.output import NewFile
+from registry_tools.output import new_file
 from registry_tools.pages import month
 from registry_tools.pages.month import Month
 
@@ -19,7 +20,7 @@ EXAMPLE = "./day month out/september.html --from 2025-09-01 --deadline 2025-09-3
 
 def add_words(parser: argparse.ArgumentParser) -> None:
     """Tells a parser the words of the command."""
-    parser.add_argument("file", metavar="FILE", help="the page that is written")
+    parser.add_argument("file", metavar="FILE", type=Target, help="the page that is written")
     parser.add_argument("--from", dest="begin", metavar="DATE", help="the first day")
     parser.add_argument("--to", dest="end", metavar="DATE", help="the last day")
     parser.add_argument("--year", type=int, metavar="Y", help="the year of compliance")
@@ -34,6 +35,6 @@ def run(said: argparse.Namespace) -> int:
         raise WordsFault(f"{said.file} is one of the files that the command reads")
     with asked.opened(said) as own:
         lead, text = month.page_of(own.days, own.office, own.names, wanted)
-    NewFile(said.file, text).keep()
+    new_file(said.file, text).keep()
     print(f"{said.file}: days {lead.removeprefix('Days: ').partition('.')[0]}")
     return 0

@@ -1,13 +1,15 @@
 """The word that names a file of names."""
 import argparse
 
+from registry_tools.elsewhere import Source
 from registry_tools.texts import labels
 from registry_tools.texts.labels import Labels
 
 
 def add_words(parser: argparse.ArgumentParser) -> None:
     """Tells a parser the word of the command."""
-    parser.add_argument("--labels", metavar="FILE", help="names of users, holders and accounts, as in labels.csv")
+    names = "names of users, holders and accounts, as in labels.csv"
+    parser.add_argument("--labels", metavar="FILE", type=Source, help=names)
 
 
 def labels_of(said: argparse.Namespace) -> Labels:

@@ -18,6 +18,7 @@ import argparse
 import sys
 
 from registry_tools.calendars.dates import date_of
+from registry_tools.elsewhere import Grown, Source
 from registry_tools.errors import FOUND
 from registry_tools.pairs.next import Next, next_text
 from registry_tools.cli.options import add_pair, add_to
@@ -33,14 +34,15 @@ def add_words(parser: argparse.ArgumentParser) -> None:
     """Tells a parser the words of the command."""
     add_pair(parser)
     parser.add_argument("--date", required=True, metavar="DATE", help="the next settlement day")
-    parser.add_argument("--do", metavar="FILE", help="the new instructions: do rows")
+    parser.add_argument("--do", metavar="FILE", type=Source, help="the new instructions: do rows")
     again = "new instructions may stand in DAY, in the pending file or twice in --do"
     parser.add_argument("--again", action="store_true", help=again)
-    parser.add_argument("--work", metavar="FILE", help="more working days: work rows")
+    parser.add_argument("--work", metavar="FILE", type=Source, help="more working days: work rows")
     blocks = "accounts that are new, or changed by hand: whole account blocks"
-    parser.add_argument("--changes", metavar="FILE", help=blocks)
-    parser.add_argument("--pending", metavar="FILE", help="the instructions that wait for their due day")
-    parser.add_argument("--pending-new", metavar="FILE", help="the same, for the first time: the file is made")
+    parser.add_argument("--changes", metavar="FILE", type=Source, help=blocks)
+    parser.add_argument("--pending", metavar="FILE", type=Grown, help="the instructions that wait for their due day")
+    new = "the same, for the first time: the file is made"
+    parser.add_argument("--pending-new", metavar="FILE", type=Grown, help=new)
     add_to(parser)
 
 

@@ -3,12 +3,14 @@ import argparse
 import os
 import re
 import sys
-from typing import IO, Any, Callable, Iterator, NoReturn
+from typing import IO, Any, Callable, Iterator, NoReturn, TypeVar
 
 from registry_tools import streams
+from registry_tools.elsewhere import Elsewhere, FileWord, Program, Source, Target
 from registry_tools.errors import WordsFault
 from registry_tools.output import must_be_writable
 
+F = TypeVar("F", bound=FileWord)
 # In place of a file that is read.
 STANDARD_INPUT = "-"
 # What stands for a date in a help: whoever reads one tells its form, also if it is empty.
@@ -85,13 +87,13 @@ def add_pair(parser: argparse.ArgumentParser, of_report: str = "its report") -> 
     """The words by which a command is told a day and its report, unless a day of a folder is named in their place."""
     add_day_text(parser, "a day text")
     if not is_day_named(parser):
-        parser.add_argument("report", metavar="REPORT", help=of_report)
+        parser.add_argument("report", metavar="REPORT", type=Source, help=of_report)
 
 
 def add_day_text(parser: argparse.ArgumentParser, what: str) -> None:
     """The word by which a command is told a day text, unless a day of a folder is named in its place."""
     if not is_day_named(parser):
-        parser.add_argument("day", metavar="DAY", help=what)
+        parser.add_argument("day", metavar="DAY", type=Source, help=what)
 
 
 def is_day_named(parser: argparse.ArgumentParser) -> bool:
@@ -102,18 +104,19 @@ def is_day_named(parser: argparse.ArgumentParser) -> bool:
 def add_to(parser: argparse.ArgumentParser) -> None:
     """The option by which a command writes its answer to a file."""
     whole = "write to this file, whole or not at all, in place of standard output"
-    parser.add_argument("--to", metavar="FILE", help=whole)
+    parser.add_argument("--to", metavar="FILE", type=Target, help=whole)
 
 
 def add_engine(parser: argparse.ArgumentParser, option: str, what: str) -> None:
     """The option by which a day is settled once more: by a program, or else by the library."""
-    parser.add_argument(option, metavar="PROGRAM", nargs="?", const=True, help=what)
+    parser.add_argument(option, metavar="PROGRAM", type=Program, nargs="?", const=True, help=what)
 
 
 def look_at_files(words: argparse.Namespace) -> None:
     """Ends the command if standard input is named more than once, or if its answer would be written over one of its
     inputs, or may not be written. This is looked at before any work is done."""
-    read, to = [*words_of_files(words)], getattr(words, "to", None)
+    read = [str(word) for word in words_of_files(words, FileWord) if isinstance(word, (Source, Program))]
+    to = getattr(words, "to", None)
     if read.count(STANDARD_INPUT) > 1:
         raise WordsFault(f"{STANDARD_INPUT} stands for standard input, and is named more than once")
     if to is None:
@@ -125,15 +128,16 @@ def look_at_files(words: argparse.Namespace) -> None:
     must_be_writable(to)
 
 
-def words_of_files(words: argparse.Namespace) -> Iterator[str]:
-    """All words that may name a file that is read."""
-    for option, values in vars(words).items():
-        if option != "to" and not option.startswith("_"):
-            yield from (value for value in (values if isinstance(values, list) else [values]) if isinstance(value, str))
+def words_of_files(words: argparse.Namespace, kind: type[F]) -> Iterator[F]:
+    """All words that name files of this kind."""
+    for values in vars(words).values():
+        yield from (value for value in (values if isinstance(values, list) else [values]) if isinstance(value, kind))
 
 
 def is_same_file(path: str, other: str) -> bool:
-    """Whether two paths name the same file, also by links."""
+    """Whether two paths name the same file, also by links. (Of one elsewhere, whoever gave the command has looked.)"""
+    if isinstance(path, Elsewhere) or isinstance(other, Elsewhere):
+        return False
     if os.path.realpath(path) == os.path.realpath(other):
         return True
     return os.path.exists(path) and os.path.exists(other) and os.path.samefile(path, other)

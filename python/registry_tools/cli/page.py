@@ -20,6 +20,7 @@ import argparse
 import sys
 
 from registry_tools.cli import named
+from registry_tools.elsewhere import NewPlace, Source
 from registry_tools.errors import WordsFault
 from registry_tools.cli.options import add_pair
 from registry_tools.pages import page
@@ -33,21 +34,21 @@ EXAMPLE = "./day page examples/week/monday.csv examples/week/monday-report.csv o
 def add_words(parser: argparse.ArgumentParser) -> None:
     """Tells a parser the words of the command."""
     add_pair(parser)
-    parser.add_argument("folder", metavar="FOLDER", help="the folder that is made")
+    parser.add_argument("folder", metavar="FOLDER", type=NewPlace, help="the folder that is made")
     only = "make pages of these accounts only, in place of all"
     parser.add_argument("--only", type=int, nargs="+", metavar="ACCOUNT", help=only)
     year = "the year of compliance.html; else the last one that is over, of any period"
     parser.add_argument("--year", type=int, metavar="Y", help=year)
     history = "all days before DAY from one on, each with its report: the statements begin with them"
-    parser.add_argument("--history", nargs="+", default=[], metavar="DAY REPORT", help=history)
+    parser.add_argument("--history", type=Source, nargs="+", default=[], metavar="DAY REPORT", help=history)
     waits = "the pending file of ./day next: what waits since earlier days is shown too"
-    parser.add_argument("--pending", metavar="FILE", help=waits)
+    parser.add_argument("--pending", metavar="FILE", type=Source, help=waits)
     before = "the day before: what people changed between is shown"
-    parser.add_argument("--before", nargs=2, metavar=("DAY", "REPORT"), help=before)
+    parser.add_argument("--before", type=Source, nargs=2, metavar=("DAY", "REPORT"), help=before)
     who = "the folder of the day in a folder of days: who changed something, and why"
     parser.add_argument("--by-hand", metavar="FOLDER", help=who)
     lanes = "who executed what, as `bench_workers lanes WORKERS` writes it"
-    parser.add_argument("--lanes", metavar="FILE", help=lanes)
+    parser.add_argument("--lanes", metavar="FILE", type=Source, help=lanes)
     named.add_words(parser)
 
 

@@ -19,6 +19,7 @@ from dataclasses import replace
 
 from registry_tools import voice
 from registry_tools.cli import asked, named, words
+from registry_tools.elsewhere import NewPlace, Source
 from registry_tools.errors import WordsFault
 from registry_tools.notes import LOOK
 from registry_tools.office import folder, release
@@ -36,14 +37,14 @@ EXAMPLE = "./day send out/sent --day 2025-09-24 --holder 5502 --office out/offic
 
 def add_words(parser: argparse.ArgumentParser) -> None:
     """Tells a parser the words of the command."""
-    parser.add_argument("folder", metavar="FOLDER", help="the folder that is made")
+    parser.add_argument("folder", metavar="FOLDER", type=NewPlace, help="the folder that is made")
     last = "the last day of the statements; without it, the last settled one"
     parser.add_argument("--day", metavar="DATE", help=last)
     parser.add_argument("--from", dest="begin", metavar="DATE", help="the first day; without it, the last one alone")
     parser.add_argument("--holder", type=int, nargs="+", metavar="H", help="only these holders")
     named.add_words(parser)
     waits = "with --pairs: the pending file of ./day next, behind the last of them"
-    parser.add_argument("--pending", metavar="FILE", help=waits)
+    parser.add_argument("--pending", metavar="FILE", type=Source, help=waits)
     parser.add_argument("--release", action="store_true", help="release the day with its letters")
     asked.add_words(parser)
     words.add_who(parser)

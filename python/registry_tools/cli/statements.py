@@ -17,6 +17,7 @@ follows from DAY.
 import argparse
 
 from registry_tools.cli.options import add_pair
+from registry_tools.elsewhere import NewPlace
 from registry_tools.questions import statements
 from registry_tools.texts.follows import read_pair
 
@@ -29,7 +30,7 @@ EXAMPLE = (
 def add_words(parser: argparse.ArgumentParser) -> None:
     """Tells a parser the words of the command."""
     add_pair(parser)
-    parser.add_argument("folder", metavar="FOLDER", help="the folder that is made")
+    parser.add_argument("folder", metavar="FOLDER", type=NewPlace, help="the folder that is made")
     parser.add_argument("--own", action="store_true", help="leave out what belongs to others")
     parser.add_argument("--account", type=int, nargs="+", metavar="N", help="only these accounts")
 

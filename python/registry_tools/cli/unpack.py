@@ -14,6 +14,7 @@ DIR must not be there yet, or be empty. With --day only that day is written, als
 import argparse
 
 from registry_tools.cli import asked, words
+from registry_tools.elsewhere import NewPlace
 from registry_tools.office import folder
 from registry_tools.questions.unpack import unpack
 
@@ -22,7 +23,7 @@ EXAMPLE = "./day unpack out/plain --day 2025-09-24 --office out/office"
 
 def add_words(parser: argparse.ArgumentParser) -> None:
     """Tells a parser the words of the command."""
-    parser.add_argument("folder", metavar="DIR", help="the folder that is made")
+    parser.add_argument("folder", metavar="DIR", type=NewPlace, help="the folder that is made")
     parser.add_argument("--day", metavar="DATE", help="only this day")
     words.add_office(parser)
 

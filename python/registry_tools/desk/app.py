@@ -13,7 +13,7 @@ from werkzeug.exceptions import HTTPException, NotFound, RequestEntityTooLarge
 from werkzeug.wrappers import Response
 
 from registry_tools import voice
-from registry_tools.desk import asks, coming, gate, heads, pages, posts, questions, search, shown, words
+from registry_tools.desk import asks, coming, gate, heads, machines, pages, posts, questions, search, shown, words
 from registry_tools.desk.gate import Served
 from registry_tools.errors import Fault, FileFault
 from registry_tools.pages import beside, html
@@ -52,7 +52,8 @@ GET: dict[str, Callable[..., Any]] = {
     f"/accounts.{FILES}": questions.accounts_file, f"/accounts/<int:number>/history.{FILES}": questions.history_file,
     f"/compliance.{FILES}": questions.compliance_file, f"/names.{FILES}": questions.names_file,
     "/table.<any(csv, xlsx):kind>": questions.table_file,
-    "/journal": questions.journal, "/audit": questions.audit, "/send": questions.send,
+    "/journal": questions.journal, f"/journal.{FILES}": questions.journal_file, f"/days.{FILES}": questions.days_file,
+    f"/month.{FILES}": questions.month_file, "/audit": questions.audit, "/send": questions.send,
     "/hand-in/look/<key>": asks.look, "/change/look/<key>": asks.look, "/names/look/<key>": asks.look,
     "/jobs/<number>": questions.job, "/jobs/<number>/packages.zip": questions.packages,
 }  # fmt: skip
@@ -63,6 +64,11 @@ POST: dict[str, Callable[..., Any]] = {
     "/change/look": asks.ask, "/change/make": posts.make_change, "/close/settle": posts.settle,
     "/undo/yes": posts.undo, "/release/yes": posts.release, "/names/look": asks.ask,
     "/names/give": posts.give_names, "/approve": posts.approve, "/audit/begin": posts.audit, "/send/begin": posts.send,
+}  # fmt: skip
+# What programs ask where the system alone says who comes (door.py).
+OF_MACHINES: dict[str, tuple[str, Callable[[Served], Response]]] = {
+    "/status.json": ("GET", machines.standing), "/try.json": ("GET", machines.try_next),
+    "/hand-in.json": ("POST", machines.hand_in),
 }  # fmt: skip
 # What somebody may begin who changes nothing.
 OF_LOOKING = {"/name", "/audit/begin", "/send/begin"}
@@ -96,6 +102,12 @@ def make(served: Served) -> flask.Flask:
         app.add_url_rule(rule, f"GET {rule}", functools.partial(shown_now, served, view), methods=["GET"])
     for rule, view in POST.items():
         app.add_url_rule(rule, f"POST {rule}", functools.partial(changed, served, view), methods=["POST"])
+    for rule, (method, view) in OF_MACHINES.items():
+        told = functools.partial(machines.told, view)
+        shows: Callable[..., Any] = shown_now
+        if method == "POST":
+            shows = changed
+        app.add_url_rule(rule, f"{method} {rule}", functools.partial(shows, served, told), methods=[method])
     app.add_url_rule("/style.css", "style", style, methods=["GET"])
     for page in (RULES, FORMATS):
         app.add_url_rule(f"/{page}", page, functools.partial(questions.document, served, page), methods=["GET"])

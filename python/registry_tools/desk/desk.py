@@ -13,6 +13,11 @@ right proxy there, since it speaks for them. From their own machine they open a 
 that ./day link prints on this one. A login with the right proxy says by a header, X-Remote-User or the one of
 --proxy-user, for whom it comes. Who may open PATH at all, the folder says in which it lies.
 
+There ./day --desk PATH COMMAND .. gives each command of the folder, by the same logins: it reads and writes the files
+of its words where it is given, with the rights there. REGISTRY_DESK=PATH stands in place of --desk PATH; and desk =
+PATH in office.ini names it to whoever may not write the folder of --office. No desk makes, upgrades or copies a folder,
+or runs a program that the words name.
+
 It needs Flask and waitress, and gunicorn for a socket: apt-get install python3-flask python3-waitress
 python3-gunicorn.
 
@@ -39,6 +44,8 @@ from registry_tools.progress import progress
 
 EXAMPLE = "./day desk --office out/office"
 ADDRESS, PORT, THREADS = "127.0.0.1", 8424, 6
+# At a socket, where no login has more than some of them.
+MOST_THREADS = 64
 NEEDED, SYSTEM = ("flask", "waitress"), "/usr/bin/python3"
 # What a socket needs in place of these, and what it is installed by.
 AT_SOCKETS = ("flask", "gunicorn")
@@ -107,7 +114,8 @@ def at_socket(said: argparse.Namespace, path: Path) -> int:
 
 def serve_at(path: Path, socket: str, header: str, is_look: bool) -> None:
     """Answers requests at a socket until somebody ends it."""
-    from registry_tools.desk import app, door
+    from registry_tools.desk import app, door, worker
+    from registry_tools.desk.commands import Coming
     from registry_tools.desk.gate import Served
     from registry_tools.desk.jobs import private_folder
     from registry_tools.desk.kept import Kept
@@ -119,10 +127,16 @@ def serve_at(path: Path, socket: str, header: str, is_look: bool) -> None:
         named = f"socket:{hashlib.sha256(os.fsencode(os.path.abspath(socket))).hexdigest()[:8]}"
         at_door = door.Door(path, header, Kept(socket))
         served = Served(path, named, own, None, None, is_look, at_door)
+        coming = Coming(path, own, at_door, is_look)
+
+        def end() -> None:
+            coming.end()
+            served.jobs.end()
+
         log.begin()
         print(f"the desk of {path} at {socket}; Ctrl-C ends it", flush=True)
         with contextlib.suppress(SystemExit, KeyboardInterrupt):
-            door.serve(app.make(served), at_door, socket, THREADS, served.jobs.end)
+            worker.serve(app.make(served), coming, socket, MOST_THREADS, end)
 
 
 def serve(path: Path, port: int, who: str | None, proxy: Proxy | None, is_look: bool) -> None:

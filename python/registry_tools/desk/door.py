@@ -4,7 +4,8 @@ office.ini says what each login may do; whom it does not name gets nothing. A lo
 header for whom it comes, and nobody else's header counts. Who comes without a proxy has a link beside: a port that
 leads to the socket from the reader's own machine, as `ssh -L` opens it, is open to everybody there.
 
-Links are made at a second socket, which such a port does not lead to: PATH.link.
+Links are made at a second socket, which such a port does not lead to: PATH.link. At a third one, PATH.day, commands are
+given (commands.py).
 """
 import contextlib
 import hashlib
@@ -12,14 +13,14 @@ import os
 import secrets
 import socket
 import stat
-import struct
 import threading
 import time
-from collections.abc import Callable, Mapping
+from collections.abc import Mapping
 from dataclasses import dataclass
 from pathlib import Path
 from typing import Any
 
+from registry_tools.cli.calling import COMMANDS
 from registry_tools.cli.link import LINKS
 from registry_tools.desk import heads, log
 from registry_tools.desk.heads import Head, Refusal
@@ -33,9 +34,10 @@ from registry_tools.office.people import SPEAKS_FOR, People
 HEADER = "X-Remote-User"
 # So long a link counts, with all that came in by it, in seconds; and so many count for one login.
 MOST_SECONDS, MOST_LINKS = 8 * 3_600, 10
-# What answers, by the name by which gunicorn loads it; and the longest path of a socket.
-WORKER = "registry_tools.desk.worker.Worker"
+# The longest path of a socket.
 LONGEST = 100
+# What stands behind that path where browsers, links and commands come.
+ENDINGS = ("", LINKS, COMMANDS)
 NOT_NAMED = "This desk does not know you: office.ini names who may come."
 NO_LINK = "Ask for a link of your own by the command link, and open it."
 
@@ -73,9 +75,7 @@ def peer_of(environ: Mapping[str, Any]) -> Peer:
 
 def peer_at(own: socket.socket) -> Peer:
     """Who is at the other end of a connection."""
-    asked = own.getsockopt(socket.SOL_SOCKET, socket.SO_PEERCRED, struct.calcsize("iII"))
-    _, user, _ = struct.unpack("iII", asked)
-    return Peer(people.login_of(user), str(own.getsockname()).endswith(LINKS))
+    return Peer(people.login_of(people.user_at(own)), str(own.getsockname()).endswith(LINKS))
 
 
 class Links:
@@ -175,8 +175,8 @@ def must_be_free(path: str) -> None:
     if about.st_uid not in (os.geteuid(), 0) or is_shared:
         expected = f"expected a folder of {people.system_login()} that nobody else may write"
         raise WordsFault(f"--socket {path}: others could put a socket of theirs into {folder}; {expected}")
-    for own in (path, f"{path}{LINKS}"):
-        must_be_left(own)
+    for ending in ENDINGS:
+        must_be_left(f"{path}{ending}")
 
 
 def must_be_left(path: str) -> None:
@@ -187,30 +187,3 @@ def must_be_left(path: str) -> None:
         with socket.socket(socket.AF_UNIX) as own, contextlib.suppress(ConnectionRefusedError):
             own.connect(path)
             raise WordsFault(f"--socket {path}: another desk answers there")
-
-
-def serve(app: Any, own: Door, path: str, threads: int, end: Callable[[], None]) -> None:
-    """Answers requests at a socket until somebody ends it. `end` is done by the process that answers, at its end."""
-    from gunicorn.app.base import BaseApplication
-
-    from registry_tools.desk import worker
-
-    app.config[worker.ASKS] = own.why_not
-
-    class Application(BaseApplication):
-        """The desk, as gunicorn wants it."""
-
-        def load_config(self) -> None:
-            """How it is served: by one process, which knows all that it began."""
-            for name, value in {
-                "bind": [f"unix:{path}", f"unix:{path}{LINKS}"], "workers": 1, "threads": threads, "umask": 0o111,
-                "worker_class": WORKER, "timeout": 0, "loglevel": "warning", "graceful_timeout": 5,
-                "worker_exit": lambda _server, _worker: end(),
-            }.items():  # fmt: skip
-                self.cfg.set(name, value)
-
-        def load(self) -> Any:
-            """What answers."""
-            return app
-
-    Application().run()

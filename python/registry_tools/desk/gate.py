@@ -104,7 +104,7 @@ def let_in_by(door: Door, own: Head) -> Any:
         return refuse(own, caller)
     flask.g.caller = caller
     if peer.is_at_links:
-        return link_for(door, own, caller)
+        return let_in_machine(own, caller) if own.path.endswith(".json") else link_for(door, own, caller)
     refusal = heads.refusal_of_site(own.of("Host"), own)
     key = flask.request.args.get("key")
     if not refusal and key is not None and own.method == "GET" and own.path == "/":
@@ -123,6 +123,21 @@ def let_in_by(door: Door, own: Head) -> Any:
             own, length or 0, length is None or bool(coding), limits.MOST_BYTES, MOST_FORM
         )
     refusal = refusal or refusal_of_form()
+    return refuse(own, refusal) if refusal else None
+
+
+def let_in_machine(own: Head, caller: Caller) -> Any:
+    """Lets a program in that asks for JSON where links are made: whose it is, the system says. A form of a browser that
+    somebody leads there sends no JSON."""
+    refusal = None
+    if caller.is_by_proxy:
+        refusal = Refusal(404, "Programs come by themselves, and not by a proxy.", "a program by a proxy")
+    if own.method == "POST":
+        length, kind = flask.request.content_length, own.of("Content-Type").partition(";")[0]
+        if kind != "application/json":
+            refusal = refusal or Refusal(415, "JSON is wanted here.", "no JSON")
+        is_open = length is None or bool(own.of("Transfer-Encoding"))
+        refusal = refusal or heads.refusal_of_body(own, length or 0, is_open, limits.MOST_BYTES, limits.MOST_BYTES)
     return refuse(own, refusal) if refusal else None
 
 

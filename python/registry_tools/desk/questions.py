@@ -23,7 +23,7 @@ from registry_tools.desk.reading import Reading
 from registry_tools.desk.shown import TYPED, asked, number_asked, row_of_taken, show_page
 from registry_tools.errors import FOUND, WordsFault
 from registry_tools.notes import BY_HAND
-from registry_tools.office import approvals
+from registry_tools.office import approvals, release as releasing
 from registry_tools.pages import compliance as standing
 from registry_tools.pages.month_standing import until_in_words
 from registry_tools.pages.beside import item_in_words, words_of_row
@@ -35,8 +35,11 @@ from registry_tools.pairs import compliance as answers
 from registry_tools.questions import changes, taken
 from registry_tools.questions.find import Find, accounts_meant, cells_of as cells_of_found, find as found_by
 from registry_tools.questions.history import history
+from registry_tools.questions.month import month
+from registry_tools.questions.unpack import row_of
 from registry_tools.second import faults, rules
 from registry_tools.cli import form
+from registry_tools.store.events import ALL, NUMBERS
 from registry_tools.sheets.writing import Written, write_workbook
 from registry_tools.showing import Cell, as_csv, as_json
 from registry_tools.tables import Columns
@@ -52,6 +55,10 @@ BEHIND["label"] = ("/names", "To the names")
 NAMES_OF_DATES = {"from": "From the day", "to": "Up to the day", "deadline": "Deadline"}
 # What files tell of an account.
 OF_ACCOUNTS = tables.columns("#account kind #holder status #general #aviation")
+# What files tell of events, of settled days, and of what came of each.
+OF_EVENTS = tables.Columns(ALL, frozenset(NUMBERS))
+OF_DAYS = tables.columns("date who at #first #next engine released")
+OF_MONTH = tables.columns("date #done #refused #waiting #general #aviation")
 # What is told of an operator.
 COLUMNS = ["Account", "Holder", "Surrendered", "Emissions", "Surrendered of emissions", "Figure now", "Verdict"]
 
@@ -282,6 +289,37 @@ def file_of(served: Served, kind: str, *sheets: Written) -> Response:
 def download(content: bytes, kind: str, name: str) -> Response:
     """A file for the browser to keep."""
     return Response(content, content_type=kind, headers={"Content-Disposition": f'attachment; filename="{name}"'})
+
+
+def journal_file(served: Served, kind: str) -> Response:
+    """All that was done, an event a row, as a file: what ./day unpack writes as events.csv."""
+    events = served.reading.office().events.all
+    return rows_file(served, kind, "journal", OF_EVENTS, [[*map(cell_of, row_of(own))] for own in events])
+
+
+def cell_of(value: object) -> Cell:
+    """A value of an event; nothing, if it has none."""
+    return value if isinstance(value, int) else str(value) or None
+
+
+def days_file(served: Served, kind: str) -> Response:
+    """All settled days, as a file."""
+    there = reversed([*releasing.days_told(served.reading.office())])
+    rows: list[Sequence[Cell]] = [
+        (str(own.date), own.who, own.at, own.first, own.next, engine, is_out) for own, engine, is_out in there
+    ]
+    return rows_file(served, kind, "days", OF_DAYS, rows)
+
+
+def month_file(served: Served, kind: str) -> Response:
+    """What came of each of several days, as a file."""
+    begin, end = date_asked("from") or datetime.date.min, date_asked("to") or datetime.date.max
+    days = served.reading.of_days(lambda there: month(there, begin, end))
+    rows: list[Sequence[Cell]] = [
+        (str(own.date), own.done, own.refused.total(), own.waiting, *(own.allowances[each] for each in rules.KINDS))
+        for own in days
+    ]
+    return rows_file(served, kind, "month", OF_MONTH, rows)
 
 
 def journal(served: Served) -> Any:

@@ -7,10 +7,15 @@ from collections import deque
 from collections.abc import Callable
 from typing import Any
 
+from gunicorn.app.base import BaseApplication
 from gunicorn.http.errors import InvalidHeaderName
 from gunicorn.workers.gthread import ThreadWorker
 
+from registry_tools import frames
+from registry_tools.cli.calling import COMMANDS
 from registry_tools.desk import log
+from registry_tools.desk.commands import Coming
+from registry_tools.desk.door import ENDINGS
 
 # A connection on which nothing comes for so many seconds is closed.
 SILENT = 60
@@ -18,8 +23,11 @@ SILENT = 60
 MOST_REFUSED = 64
 # What is told, in plain text, to who gets nothing else.
 ANSWER = "HTTP/1.1 403 Forbidden\r\nConnection: close\r\nContent-Type: text/plain\r\nContent-Length: {}\r\n\r\n{}"
-# Under this name the application has what says whether somebody may come in, and else why not.
-ASKS = "WHY_NOT"
+# By this name gunicorn loads what answers; and what it reads of the environment.
+WORKER = "registry_tools.desk.worker.Worker"
+OF_OTHERS = ("SCRIPT_NAME", "GUNICORN_PID", "GUNICORN_FD", "LISTEN_PID", "LISTEN_FDS")
+# Under this name the application has what says whether somebody may come in, and else why not, and begins commands.
+BEGINS = "BEGINS"
 
 
 class Worker(ThreadWorker):
@@ -34,8 +42,22 @@ class Worker(ThreadWorker):
         super().init_process()
 
     def accept(self, server: Any, listener: Any) -> None:
-        """Takes a connection, if it may be."""
-        super().accept(server, Listener(listener, self.wsgi.config[ASKS], self.refused))
+        """Takes a connection, if it may be: of a browser or of a link, or one by which a command is given."""
+        coming: Coming = self.wsgi.config[BEGINS]
+        if not str(server).endswith(COMMANDS):
+            super().accept(server, Listener(listener, coming.why_not, refuse_browser, self.refused))
+            return
+        try:
+            own, _ = Listener(listener, coming.why_no_command, frames.refuse, self.refused).accept()
+        except OSError:
+            # (they may not, or are gone)
+            return
+        with own:
+            try:
+                coming.begin(own)
+            except OSError as error:
+                log.told(f"a command cannot be begun: {error.strerror}")
+                frames.refuse(own, f"the desk cannot begin it now: {error.strerror}")
 
     def handle_request(self, req: Any, conn: Any) -> Any:
         """Answers a request. A header with `_` in its name is refused: it would pass for the one with `-`, which a
@@ -51,9 +73,10 @@ class Listener:
     """A listening socket that gives only connections of those who may come."""
 
     def __init__(
-        self, listener: socket.socket, why_not: Callable[[socket.socket], str], refused: deque[socket.socket]
-    ) -> None:
-        self.listener, self.why_not, self.refused = listener, why_not, refused
+        self, listener: socket.socket, why_not: Callable[[socket.socket], str],
+        tell: Callable[[socket.socket, str], None], refused: deque[socket.socket],
+    ) -> None:  # fmt: skip
+        self.listener, self.why_not, self.tell, self.refused = listener, why_not, tell, refused
 
     def accept(self) -> tuple[socket.socket, Any]:
         """The next connection. Raises OSError if it is of somebody who may not come."""
@@ -71,10 +94,35 @@ class Listener:
         self.refused.append(own)
         if len(self.refused) > MOST_REFUSED:
             self.refused.popleft().close()
-        own.setblocking(False)
-        try:
-            own.send(ANSWER.format(len(why.encode()) + 1, f"{why}\n").encode())
-            own.shutdown(socket.SHUT_WR)
-        except OSError:
-            # (they are gone)
-            pass
+        self.tell(own, why)
+
+
+def refuse_browser(own: socket.socket, why: str) -> None:
+    """Tells a browser, or whoever asks for a link, why nothing is read of it."""
+    frames.send_at_once(own, ANSWER.format(len(why.encode()) + 1, f"{why}\n").encode())
+
+
+def serve(app: Any, coming: Coming, path: str, threads: int, end: Callable[[], None]) -> None:
+    """Answers requests at a socket until somebody ends it. `end` is done by the process that answers, at its end."""
+    app.config[BEGINS] = coming
+    # (gunicorn takes these from whoever started the desk: where it answers, and of whom it goes on)
+    for name in OF_OTHERS:
+        os.environ.pop(name, None)
+
+    class Application(BaseApplication):
+        """The desk, as gunicorn wants it."""
+
+        def load_config(self) -> None:
+            """How it is served: by one process, which knows all that it began."""
+            for name, value in {
+                "bind": [f"unix:{path}{ending}" for ending in ENDINGS], "workers": 1, "threads": threads,
+                "umask": 0o111, "worker_class": WORKER, "timeout": 0, "loglevel": "warning", "graceful_timeout": 5,
+                "worker_exit": lambda _server, _worker: end(),
+            }.items():  # fmt: skip
+                self.cfg.set(name, value)
+
+        def load(self) -> Any:
+            """What answers."""
+            return app
+
+    Application().run()

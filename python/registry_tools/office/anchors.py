@@ -12,7 +12,6 @@ SIGNATURE is empty, or what `ssh-keygen -Y sign` made of all before it, in one l
 import base64
 import binascii
 import datetime
-import os
 import re
 import subprocess
 import tempfile
@@ -23,10 +22,10 @@ from pathlib import Path
 from registry_tools.errors import FileFault, WordsFault, shown
 from registry_tools.office import composing
 from registry_tools.office.office import Office
-from registry_tools.output import NewFile, must_be_writable
+from registry_tools.output import must_be_writable, new_file
 from registry_tools.store.events import UPGRADED, Event, Events, now
 from registry_tools.store.file import Store
-from registry_tools.texts.rows import bytes_of, rows_of
+from registry_tools.texts.rows import bytes_of, is_there, rows_of
 
 TAG, FORM = "anchor", "anchor,AT,DATE,HEAD,ENGINE,SIGNATURE"
 FEWEST_DIGITS = 12
@@ -124,14 +123,14 @@ def anchor_of(office: Office) -> Anchor:
     return signed(anchor, key) if key else anchor
 
 
-def keep(path: Path, anchor: Anchor) -> int:
+def keep(path: str, anchor: Anchor) -> int:
     """Puts an anchor behind those of a file, and answers how many there are."""
     must_be_writable(path)
-    there = bytes_of(path) if path.exists() else b""
+    there = bytes_of(path) if is_there(path) else b""
     if there and not there.endswith(b"\n"):
         raise FileFault(path, 0, "", "no line end behind the last line", "a line end: the file may be cut")
     count = sum(1 for _ in read(path)) if there else 0
-    NewFile(os.fspath(path), there + f"{anchor.row()}\n".encode("utf-8", "surrogateescape")).keep()
+    new_file(path, there + f"{anchor.row()}\n".encode("utf-8", "surrogateescape")).keep()
     return count + 1
 
 

@@ -6,7 +6,8 @@ from dataclasses import dataclass
 from pathlib import Path
 from typing import Any
 
-from registry_tools.errors import Fault, LateFault, WordsFault, shown
+from registry_tools.elsewhere import bounds
+from registry_tools.errors import Fault, LateFault, RightsFault, WordsFault, shown
 from registry_tools.office import people
 from registry_tools.office.people import People
 from registry_tools.office.settings import Settings
@@ -109,6 +110,8 @@ class Office:
 
     def let_in(self, command: str, by: By) -> None:
         """Ends the command if this login may not give it now; what it does from here on is its own."""
+        if bounds.is_look:
+            raise RightsFault("this desk shows all, and changes nothing")
         self.login, self.who = by.login, by.who
         people.must_be_allowed(self.people, self.login, command)
         if by.seen is not None and by.seen != self.state():

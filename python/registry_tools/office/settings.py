@@ -16,7 +16,7 @@ ANCHOR, KEY = "anchor", "key"
 # What office.ini has: another section would be one that nobody reads.
 SECTIONS = (SECTION, deadlines.SECTION, ANCHOR, people.SECTION, people.FOUR_EYES)
 # What it names under [office].
-NAMES = ("layout", "program", "statements", "pages", "verify", "name")
+NAMES = ("layout", "program", "statements", "pages", "verify", "desk", "name")
 
 
 @dataclass(frozen=True)
@@ -35,6 +35,8 @@ class Settings:
     key: Path | None = None
     # Who may do what, and what waits for a second one.
     people: People = People()
+    # The socket of its desk, for whoever may not write the folder.
+    desk: str = ""
     # What the office is called, if it is told.
     name: str = ""
 
@@ -74,8 +76,9 @@ def read(path: Path) -> Settings:
     makes_statements, makes_pages = is_yes(path, section, "statements"), is_yes(path, section, "pages")
     due = deadlines.read(path, parser)
     verifies = "verify" in section and is_yes(path, section, "verify")
-    key, named, name = key_of(path, parser), people.read(path, text), section.get("name", "")
-    return Settings(section.get("program", ""), makes_statements, makes_pages, verifies, due, key, named, name)
+    key, named = key_of(path, parser), people.read(path, text)
+    program, desk, called = (section.get(name, "") for name in ("program", "desk", "name"))
+    return Settings(program, makes_statements, makes_pages, verifies, due, key, named, desk, called)
 
 
 def key_of(path: Path, parser: configparser.ConfigParser) -> Path | None:

@@ -5,6 +5,7 @@ import itertools
 from dataclasses import dataclass
 
 from registry_tools.calendars.due_days import NOT_DUE
+from registry_tools.elsewhere import bounds
 from registry_tools.engine import NotSettled, find_library
 from registry_tools.errors import FileFault
 from registry_tools.notes import LOOK
@@ -129,6 +130,8 @@ def mark_and_keep(office: Office, looked: list[Looked]) -> None:
     """Marks what is new, and keeps this look in place of the last one. Nothing depends on it: so a fault, or another
     command that changes the file, is passed over."""
     mark_new(office, looked)
+    if bounds.is_look:
+        return
     try:
         with office.store.change(wait=0):
             forget(office)

@@ -11,7 +11,7 @@ from pathlib import Path
 
 from registry_tools.errors import FileFault, WordsFault
 from registry_tools.texts.labels import Labels
-from registry_tools.output import NewFolder
+from registry_tools.output import NewFolder, new_folder
 from registry_tools.pages.account import account_page
 from registry_tools.pages.compliance import account_list_pages, compliance_pages
 from registry_tools.pages.html import Frame
@@ -148,7 +148,7 @@ def write_shared(numbers: list[int]) -> int:
 
 def make(path: str | Path, asked: Page) -> int:
     """Makes the pages in a folder that is not there yet, or empty, and answers how many there are."""
-    with NewFolder(path) as folder:
+    with new_folder(path) as folder:
         day, report = read_pair(asked.day, asked.report)
         history = read_history(asked.history, day)
         days = [DayOfAccounts(*pair) for pair in [*history, (day, report)]]

@@ -7,7 +7,7 @@ from dataclasses import dataclass
 from registry_tools import voice
 from registry_tools.errors import WordsFault
 from registry_tools.texts.labels import Labels
-from registry_tools.output import NewFolder
+from registry_tools.output import new_folder
 from registry_tools.pages.html import Frame
 from registry_tools.pages.letter import LetterWords, letter
 from registry_tools.pages.settled import Settled
@@ -106,7 +106,7 @@ def send(days: Days, names: Labels, asked: Send, folder: str, keep: Callable[[],
     last, waiting = DayTold(past_day), waiting_of(asked.pending, past_day)
     settled = Settled(last.day, last.report, LetterWords(), Frame([]), (), waiting, names)
     holders = accounts_of(last.report, asked.holders)
-    with NewFolder(folder) as made:
+    with new_folder(folder) as made:
         for holder, numbers in progress.over(holders.items(), "writing the packages", len(holders), step=1):
             told = [*map(DayTold, excerpts(days, dates[:-1], numbers)), last]
             places = places_by_number(told, numbers)
@@ -116,6 +116,7 @@ def send(days: Days, names: Labels, asked: Send, folder: str, keep: Callable[[],
             made.write(f"{holder}.html", letter(settled, own, holder, places, days.head, tables))
             for number, text in texts.items():
                 made.write(tables[number][0], text)
+        made.have_all_there()
         keep()
     return Sent(len(holders), sum(map(len, holders.values())))
 

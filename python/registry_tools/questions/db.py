@@ -7,10 +7,12 @@ from dataclasses import dataclass
 from pathlib import Path
 
 from registry_tools import voice
+from registry_tools.elsewhere import Elsewhere
 from registry_tools.errors import FileFault, of_file
 from registry_tools.output import made_aside
 from registry_tools.questions.days import Days
 from registry_tools.store import daybook, file
+from registry_tools.texts.rows import is_there, packed_bytes_of
 
 DAYS_IN = "SELECT date, day_sum, report_sum FROM days ORDER BY date"
 HAS_DAYS = "SELECT 1 FROM sqlite_master WHERE type = 'table' AND name = 'days'"
@@ -57,10 +59,14 @@ def copy(database: sqlite3.Connection, target: sqlite3.Connection) -> None:
 
 def days_there(path: str) -> list[tuple[str, str, str]]:
     """The days that a database has, with the sums of their texts, if it is there."""
-    if not Path(path).exists():
+    if not is_there(path):
         return []
-    file.look_beside(Path(path))
-    with contextlib.closing(sqlite3.connect(path)) as database:
+    own = Path(path)
+    if isinstance(path, Elsewhere):
+        own = path.caller.aside / "there"
+        own.write_bytes(packed_bytes_of(path))
+    file.look_beside(own)
+    with contextlib.closing(sqlite3.connect(own)) as database:
         if not database.execute(HAS_DAYS).fetchone():
             found = f"a file that {voice.command('db')} has not made"
             raise FileFault(path, 0, "", found, "one that it has made, or no such file")

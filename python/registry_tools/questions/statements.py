@@ -4,7 +4,7 @@ import datetime
 from pathlib import Path
 
 from registry_tools.errors import WordsFault
-from registry_tools.output import NewFolder
+from registry_tools.output import new_folder
 from registry_tools.progress import progress
 from registry_tools.texts.accounts import Block
 from registry_tools.texts.day_text import DayText
@@ -65,6 +65,6 @@ def make(day: DayText, report: Report, folder: str | Path, accounts: list[int] |
         if number not in day.book:
             raise WordsFault(f"there is no account {number} in {day.path}")
     rows = rows_by_account(day, report, is_own)
-    with NewFolder(folder) as made:
+    with new_folder(folder) as made:
         for number in progress.over(numbers, "writing the statements", len(numbers)):
             made.write(f"{number}.csv", statement_of(day, report, number, rows.get(number, []), is_own))

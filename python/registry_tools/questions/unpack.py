@@ -17,7 +17,7 @@ from registry_tools.errors import WordsFault
 from registry_tools.office import handed
 from registry_tools.office.handed import HandedIn
 from registry_tools.office.office import Office
-from registry_tools.output import NewFolder
+from registry_tools.output import new_folder
 from registry_tools.progress import progress
 from registry_tools.showing import as_csv
 from registry_tools.store.events import ALL, FILED, NO_DATE, Event
@@ -65,7 +65,7 @@ class Made:
     """What was written so far: the SHA-256 of each file, by its name."""
 
     def __init__(self, folder: str) -> None:
-        self.new = NewFolder(folder)
+        self.new = new_folder(folder)
         self.sums: dict[str, str] = {}
 
     def write_all(self, place: str, files: Iterator[tuple[str, bytes]]) -> None:

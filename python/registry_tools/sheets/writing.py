@@ -7,7 +7,7 @@ from typing import NamedTuple
 from xml.sax.saxutils import escape
 
 from registry_tools.errors import FileFault
-from registry_tools.output import NewFile
+from registry_tools.output import new_file
 from registry_tools.sheets.limits import MOST_LETTERS
 from registry_tools.sheets.sheet import name_of_cell
 
@@ -74,7 +74,7 @@ def write_workbook(path: str, *sheets: Written) -> None:
     with zipfile.ZipFile(content, "w", zipfile.ZIP_DEFLATED) as archive:
         for part, text in parts.items():
             archive.writestr(zipfile.ZipInfo(part), text, zipfile.ZIP_DEFLATED)
-    NewFile(path, content.getvalue()).keep()
+    new_file(path, content.getvalue()).keep()
 
 
 def sheet_text(path: str, rows: Iterable[Sequence[str]]) -> Iterator[str]:

@@ -15,6 +15,7 @@ from dataclasses import dataclass, field
 from pathlib import Path
 
 from registry_tools import opening, streams
+from registry_tools.elsewhere import Elsewhere, must_be_here
 from registry_tools.errors import FileFault, of_file
 from registry_tools.progress import progress
 
@@ -82,13 +83,21 @@ def read_once(path: str) -> bytes:
     return opening.read(path)
 
 
+def named_bytes(path: str | Path) -> bytes:
+    """The content of what a word names, as it is there. Raises OSError."""
+    if isinstance(path, Elsewhere):
+        return path.content()
+    must_be_here(path)
+    return opening.read(path) if is_file(path) else read_once(str(path))
+
+
 def packed_bytes_of(path: str | Path) -> bytes:
     """The content of a file, or of standard input, whose name is `-`, as it is there."""
     progress.tell(f"reading {path}")
     if isinstance(path, KeptText):
         return path.content()
     try:
-        return opening.read(path) if is_file(path) else read_once(str(path))
+        return named_bytes(path)
     except OSError as error:
         raise of_file(path, f"it cannot be read: {error.strerror}") from None
 
@@ -128,10 +137,18 @@ def is_file(path: str | Path) -> bool:
     return isinstance(path, KeptText) or (str(path) != "-" and Path(path).is_file())
 
 
+def is_there(path: str) -> bool:
+    """Whether something has the name that a word says."""
+    try:
+        return path.there() is not None if isinstance(path, Elsewhere) else os.path.exists(path)
+    except OSError:
+        return True
+
+
 def begins_with(path: str | Path, starts: tuple[str, ...]) -> bool:
     """Whether the first row of a file begins so; of one that cannot be read, nobody knows."""
     try:
-        if isinstance(path, KeptText):
+        if isinstance(path, (KeptText, Elsewhere)):
             start = path.content()[:FIRST_BYTES]
         elif is_file(path):
             with open(opening.open_file(path, os.O_RDONLY), "rb") as file:
