@@ -116,7 +116,14 @@ def wheels_fault(folder: Path, room: Path) -> object:
     place = new_room(room / "venv", *sorted(folder.glob("python/*.whl")))
     # (the Python of such a place may be one that another user can't run)
     wrong = week_fault(place / "bin/registry-day", Somebody(room / "somebody", is_other=False), "library")
-    return wrong or engine_fault(place) or notebook_fault(place, folder / "src/python")
+    return wrong or engine_fault(place) or office_fault(place) or notebook_fault(place, folder / "src/python")
+
+
+def office_fault(place: Path) -> object:
+    """The office in Python as pip has put it, with its types."""
+    said = answer_of([place / "bin/python", "-c", "import registry_office; print(registry_office.__version__)"], env={})
+    typed = [*place.glob("lib/python*/site-packages/registry_*/py.typed")]
+    return said if (said[0].decode().strip(), said[2], len(typed)) != (VERSION, 0, 2) else None
 
 
 def notebook_fault(place: Path, folder: Path) -> object:

@@ -70,7 +70,7 @@ def debian_fault(made: Path, room: Path) -> object:
     if not packages:
         raise LeftOut("dpkg-deb or a C compiler is not here, so no package was made")
     names = [path.name.partition("_")[0] for path in packages]
-    if names != ["libregistry-dev", "libregistry1", "python3-registry", "registry", DESK]:
+    if names != ["libregistry-dev", "libregistry1", "python3-registry", DESK, "registry"]:
         return f"these are the packages: {names}"
     root = room / "root"
     root.mkdir(parents=True)

@@ -177,6 +177,35 @@ def test_forged_line_is_refused(folder: office.Office) -> None:
         office.open_folder(folder.path)
 
 
+def test_look_hands_nothing_in(folder: office.Office, tmp_path: Path) -> None:
+    closed(folder)
+    row, before = tmp_path / "row.csv", content_of(folder.path)
+    row.write_text("do,2025-04-01,101,102,transfer,1,2,general,7\n")
+    ben, asked = office.caller(folder, "ben"), office.HandIn((office.Given(str(row)),))
+    looked = office.look_at(folder, ben, asked)
+    assert [own.do_row for own in looked.looked] == [row.read_text().strip()]
+    assert content_of(folder.path) == before and office.status(folder).handed_in.parts == []
+    assert [part.count for part in office.hand_in(folder, ben, asked).parts] == [1]
+    assert [own.do_row for own in office.try_next(folder).looked] == [row.read_text().strip()]
+
+
+def test_status_counts_the_rows_of_an_account(folder: office.Office, tmp_path: Path) -> None:
+    closed(folder)
+    account, rows = tmp_path / "new.csv", "account,4,trading,12,open,no,no,0,0,0\nuser,401,both\nuser,402,both\n"
+    account.write_text(rows)
+    office.hand_in(folder, office.caller(folder, "ben"), office.HandIn((office.Given(str(account)),)))
+    told = [what for _, what in office.status(folder).lines]
+    assert f"{rows.splitlines()[0]} and 2 rows (new.csv, ben)" in "\n".join(told)
+
+
+def test_status_tells_programs_when_what_waits_is_due(tmp_path: Path) -> None:
+    office.make_folder(office.Init(tmp_path / "week", str(TOP / "examples/week/monday.csv")), "ana")
+    with office.open_folder(tmp_path / "week") as week:
+        office.close(week, office.caller(week, "ana"), office.Close(datetime.date(2025, 9, 22), True, yes=True))
+        rows = [row[:3] for row in office.status(week).rows if row[0] == "waiting"]
+    assert rows == [["waiting", "2025-09-23", 61004], ["waiting", "2025-09-24", 61005]]
+
+
 def test_folder_of_a_program_is_read_by_another_process(folder: office.Office) -> None:
     closed(folder)
     said = subprocess.run(
