@@ -1,12 +1,13 @@
 -- The file of a folder of days: what people gave and what days became, and who did what. What questions ask of settled
 -- days stands in the tables of daybook.sql. Everything is only added: an event stays as it is.
 
--- A text by the SHA-256 of its bytes, packed by zlib. Equal texts are kept once.
+-- A text by the SHA-256 of its bytes, packed by zlib. Equal texts are kept once. (Its rows are long: without row numbers
+-- each search would read some of them whole.)
 CREATE TABLE texts (
-  sum TEXT PRIMARY KEY CHECK (length(sum) = 64),
+  sum TEXT NOT NULL PRIMARY KEY CHECK (length(sum) = 64),
   size INTEGER NOT NULL,
   packed BLOB NOT NULL
-) STRICT, WITHOUT ROWID;
+) STRICT;
 
 -- What was done. LINE is the SHA-256 of json_array(before, what, at, .., people): of all columns but id and line, in
 -- their order. So each event has the sum of the one before it.
