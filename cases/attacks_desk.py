@@ -4,6 +4,7 @@ from __future__ import annotations
 
 import html
 import os
+import re
 import shutil
 import socket
 import subprocess
@@ -128,15 +129,13 @@ def upload_attempts(work: Path) -> Attempts:
                  ("__main__.py", module), ("sitecustomize.py", module), ("registry", module)]  # fmt: skip
         looked = browser.send("/names", "/names/look", files)
         yield "a look at modules beside a table", was_run(mark) or looked.wrong(200)
-        place = looked.fields("/names/give")
+        (upload,) = uploads_of(Path(desk_folder(desk)))
         for action in ("/hand-in/take", "/names/give", "/hand-in/look"):
             fields = {**looked.fields("/names/give"), "why": "x", "once": os.urandom(8).hex()}
             answer = browser.post(action, fields)
             said = browser.job(answer) if answer.status == 303 else answer
             yield f"{action} of modules", was_run(mark)
-            yield f"{action} of modules: pages name no folder of the desk", place["place"] in said.text.replace(
-                f'value="{place["place"]}"', ""
-            )
+            yield f"{action} of modules: pages name no folder of the desk", upload.name in said.text
         yield from name_attempts(browser, Path(desk_folder(desk)))
 
 
@@ -153,13 +152,18 @@ STRANGE = (
 )  # fmt: skip
 
 
+def uploads_of(private: Path) -> list[Path]:
+    """The folders of the uploads of a desk."""
+    return [path for path in private.iterdir() if re.fullmatch("[0-9a-f]{32}", path.name)]
+
+
 def name_attempts(browser: Browser, private: Path) -> Attempts:
     """Whatever a file is called, it lies under a name of the desk, and is told by the name that it came with."""
     row = "do,2025-09-23,5101,5102,surrender,100210,general,{}\n"
     for place, name in enumerate(STRANGE):
         looked = browser.send("/hand-in", "/hand-in/look", [(name, row.format(place + 1).encode())])
-        upload = looked.fields("/hand-in/take")["place"]
-        lies = sorted(path.name for path in (private / upload).iterdir())
+        upload = max(uploads_of(private), key=lambda path: path.stat().st_mtime_ns)
+        lies = sorted(path.name for path in upload.iterdir())
         yield f"a file called {name!r:.30} lies under another name", differs(lies, ["upload-1"])
         there = browser.job(browser.post("/hand-in/take", {**looked.fields("/hand-in/take")}))
         yield f"a file called {name!r:.30} is handed in", None if "handed in: " in there.text else there.text[-600:]

@@ -149,7 +149,7 @@ def look_only_trials(work: Path) -> Iterator[Told]:
     ana = desk.person()
     looked = ana.send("/hand-in", "/hand-in/look", {"rows.csv": f"{ROW}1\n".encode()})
     taken = {**looked.page.form("/hand-in/take").fields, "again": "1:1"}
-    yield "a row of no file", differs(ana.post("/hand-in/take", taken).status, 400)
+    yield "a row of no file", differs(ana.look("/hand-in/look", taken).status, 400)
 
 
 # What comes twice.
@@ -161,7 +161,7 @@ def upload_trials(work: Path) -> Iterator[Told]:
     ana = desk.person()
     form = ana.get("/hand-in").page.form("/hand-in/look")
     files = [(io.BytesIO(f"{ROW}{amount}\n".encode()), "rows.csv") for amount in (1, 2)]
-    looked = ana.post("/hand-in/look", {**form.fields, "files": files})
+    looked = ana.look("/hand-in/look", {**form.fields, "files": files})
     told = ana.yes(looked, "/hand-in/take")
     yield "two files of one name", has(told, "handed in: rows.csv", "handed in: 1 rows.csv")
     status = Said("status", *own).output

@@ -139,6 +139,7 @@ class Answer:
     status: int
     headers: dict[str, str]
     content: bytes
+    path: str = ""
 
     @property
     def text(self) -> str:
@@ -208,9 +209,10 @@ class Person:
         own = {**self.headers, **(headers or {})}
         # (without redirects: where one leads is looked at)
         answer = self.client.open(path, method=method, headers=own, **more)
-        if answer.mimetype == "text/html" and path not in DOCUMENTS:
+        # (what was typed stands in the address to which a form leads)
+        if answer.mimetype == "text/html" and path not in DOCUMENTS and answer.status_code != 303:
             look_for_commands(f"{method} {path}", answer.data.decode())
-        return Answer(answer.status_code, dict(answer.headers), answer.data)
+        return Answer(answer.status_code, dict(answer.headers), answer.data, path)
 
     def get(self, path: str) -> Answer:
         return self.ask("GET", path)
@@ -219,9 +221,14 @@ class Person:
         return self.ask("POST", path, data=fields, content_type="multipart/form-data")
 
     def send(self, page: str, action: str, files: dict[str, bytes] | None = None, **said: Any) -> Answer:
-        """Opens a page, and sends its form with some fields changed, and with files."""
+        """Opens a page, and sends its form with some fields changed, and with files; if it leads to a look, to that."""
         form = self.get(page).page.form(action)
-        return self.post(action, {**form.fields, **said, **uploads(files or {})})
+        return self.look(action, {**form.fields, **said, **uploads(files or {})})
+
+    def look(self, action: str, fields: Fields) -> Answer:
+        """Sends a form, and goes to the look to which it leads, if it leads to one."""
+        answer = self.post(action, fields)
+        return self.follow(answer) if "/look/" in answer.headers.get("Location", "") else answer
 
     def yes(self, answer: Answer, action: str, **said: Any) -> Answer:
         """Sends the form of an answer, and gives the page to which it leads."""

@@ -132,7 +132,9 @@ class Visitor:
         return found[1]
 
     def send(self, page: str, action: str, files: Sequence[File] = (), **said: str) -> Answer:
-        return self.post(action, {**self.get(page).fields(action), **said}, files)
+        answer = self.post(action, {**self.get(page).fields(action), **said}, files)
+        place = answer.headers.get("Location", "")
+        return self.get(place) if "/look/" in place else answer
 
     def job(self, answer: Answer) -> Answer:
         """The page of a command that was begun, once it has ended."""
@@ -283,7 +285,9 @@ def all_trials(work: Path, leave_out: Callable[[str, LeftOut], None], many: int)
         finally:
             status = desk.end()
         yield "Ctrl-C ends it", differs(status, 0)
-        yield "its sockets are gone", [name for name in os.listdir(place) if name.startswith(path.name)]
+        left = [name for name in os.listdir(place) if name.startswith(path.name)]
+        yield "its sockets are gone, and what it keeps is there", differs(left, [f"{path.name}.kept"])
+        yield "which nobody else reads", differs((place / left[0]).stat().st_mode & 0o777, 0o600)
         status, said = owner.day("audit", "--second", "--office", office)
         yield "audit of the folder", None if ": 0 differences" in said else (status, said)
         yield "no key or cookie in the log", [word for word in Visitor.secrets if word in desk.said()]
@@ -415,7 +419,7 @@ def link_of_others_trials(path: Path, anna: Login, bert: Login) -> Told:
     yield "a form of another site", own.post("/names/look", said, (), [("Sec-Fetch-Site", "cross-site")]).wrong(403)
     yield "a form of another page", own.post("/names/look", said, (), [("Origin", "http://example.org")]).wrong(403)
     yield "another token", own.post("/names/look", {**said, "token": form["token"][::-1]}).wrong(403)
-    yield "a form of the desk", own.post("/names/look", said, (), [("Origin", "http://localhost")]).wrong(200)
+    yield "a form of the desk", own.post("/names/look", said, (), [("Origin", "http://localhost")]).wrong(303)
     yield "another method", own.ask("PUT", "/").wrong(405)
     told = own.ask("POST", "/names/look", b"", [("Transfer-Encoding", "chunked")])
     yield "a form of no length", told.wrong(400, 403, 411)
@@ -481,7 +485,7 @@ def proxy_trials(path: Path, office: Path, anna: Login, bert: Login, proxy: Logi
     own.headers = {HEADER: bert.name}
     yield "a form under another name", own.post("/names/look", said).wrong(403)
     own.headers = {HEADER: anna.name}
-    yield "a form under the same name", own.post("/names/look", said).wrong(200)
+    yield "a form under the same name", own.post("/names/look", said).wrong(303)
     told = own.yes(own.send("/hand-in", "/hand-in/look", [("d.csv", ROW.format(4).encode())]), "/hand-in/take")
     what, login, who = events_of(office)[-1]
     wanted = ("handed", f"{proxy.name}:{anna.name}", anna.name)

@@ -132,7 +132,9 @@ class Browser:
 
     def send(self, page: str, action: str, files: Sequence[File] = (), **said: str) -> Answer:
         """Opens a page, and sends its form with fields filled in, and with files."""
-        return self.post(action, {**self.get(page).fields(action), **said}, files)
+        answer = self.post(action, {**self.get(page).fields(action), **said}, files)
+        place = answer.headers.get("Location", "")
+        return self.get(place) if "/look/" in place else answer
 
     def job(self, answer: Answer) -> Answer:
         """The page of a command that was begun, once it has ended."""

@@ -76,7 +76,9 @@ class AtPort:
 
     def send(self, page: str, action: str, files: Sequence[File] = (), **said: str) -> Answer:
         """Opens a page, and sends its form with fields filled in, and with files."""
-        return self.post(action, {**self.get(page).fields(action), **said}, files)
+        answer = self.post(action, {**self.get(page).fields(action), **said}, files)
+        place = answer.headers.get("Location", "")
+        return self.get(place) if "/look/" in place else answer
 
     def is_not(self, login: Login) -> object:
         """What is wrong, if the desk does not say that this login is at this browser."""
@@ -216,7 +218,7 @@ def nginx_trials(work: Path, path: Path, proxy: Login, people: Sequence[Login]) 
         yield "nginx: a file of 2.8 MB is looked at", None if "large.csv:1" in large.text else large.text[-900:]
         said = name_of(own)
         yield "nginx: a form of another page", own.post("/names/look", said, (), "http://example.org").wrong(403)
-        yield "nginx: a form of the desk", own.post("/names/look", said).wrong(200)
+        yield "nginx: a form of the desk", own.post("/names/look", said).wrong(303)
         own.headers = said_who(looks)
         yield "nginx: a form under another name", own.post("/names/look", said).wrong(403)
 
@@ -231,7 +233,7 @@ def ssh_trials(work: Path, path: Path, people: Sequence[Login]) -> Told:
         yield "ssh: the link opens", own.get(way).wrong(200)
         yield "ssh: by a key", own.is_not(anna)
         said = name_of(own)
-        yield "ssh: a form of the desk", own.post("/names/look", said).wrong(200)
+        yield "ssh: a form of the desk", own.post("/names/look", said).wrong(303)
         yield "ssh: a form of another page", own.post("/names/look", said, (), "http://example.org").wrong(403)
         theirs = there.says(looks, words).partition("\n")[0].partition(f"http://127.0.0.1:{port}")[2]
         yield "ssh: the link of somebody else at her port", AtPort(port).get(theirs).wrong(403)

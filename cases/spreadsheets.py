@@ -2,6 +2,7 @@
 others write them; and cells that are wrong."""
 import csv
 import io
+import json
 import random
 import re
 import subprocess
@@ -13,10 +14,12 @@ from harness import TOP, Said, differs
 
 from registry_tools.second import rules
 from registry_tools.sheets import columns as tables
+from registry_tools.sheets.sheets import read_content
 from registry_tools.sheets.writing import Written, write_workbook
 from registry_tools.showing import as_csv
 
 from drawing import drawn_rows
+from offices import must_do
 from opened import open_document
 
 DRAWN_DAYS = 12
@@ -158,6 +161,67 @@ def replace_in(path: Path, name: str, old: str, new: str) -> None:
     with zipfile.ZipFile(path, "w") as archive:
         for part, text in parts.items():
             archive.writestr(part, text.replace(old, new) if part == name else text)
+
+
+# Cells that a spreadsheet would take for formulas, and cells that are what they are.
+FORMULAS = ("=1+1", "+x", "-x", "@SUM(A1)", "'=1", "''-x", "\t=1", "-1.250", "--5")
+PLAIN = ("-5", "5", "a=b", "'a", "''", "2025-09-22", "", " =1")
+NAME = '=HYPERLINK("http://x/","Glas")'
+
+
+def cells_as_text(work: Path) -> Iterator[tuple[str, object]]:
+    """What a spreadsheet would take for a formula is text in a csv, and what it was when the csv is read again."""
+    for cell in (*FORMULAS, *PLAIN):
+        text = as_csv(["a", "b"], [[cell, "x"]])
+        quoted = next(row for row in csv.reader(io.StringIO(text, newline="")) if row[1] == "x")[0]
+        yield f"as text: {cell!r}", differs(quoted, f"'{cell}" if cell in FORMULAS else cell)
+        yield f"as it was: {cell!r}", differs(read_content("t", text.encode()).rows[1][0], cell)
+    own = ["--office", str(work / "named")]
+    must_do(["init", own[1], str(TOP / "examples" / "week" / "monday.csv")])
+    must_do(["label", "holder", "5501", NAME, "--why", "a letter", *own])
+    (named,) = csv.DictReader(io.StringIO(Said("label", "--csv", *own).output))
+    yield "a name in a csv", differs(named["name"], f"'{NAME}")
+    yield "a name in JSON", differs(json.loads(Said("label", "--json", *own).output)[0]["name"], NAME)
+    table = work / "names.csv"
+    table.write_text(as_csv(["kind", "number", "name"], [["holder", "5501", NAME], ["holder", "5502", "+Glas"]]))
+    said = Said("label", "--file", table, "--why", "a list", *own)
+    yield "a table of names is read as it was written", None if "5501" not in said.output and "+Glas" in said.output \
+        else said
+
+
+def hidden_rows(work: Path) -> Iterator[tuple[str, object]]:
+    """Rows that a spreadsheet hides are told where they are handed in."""
+    path, own = work / "hidden.xlsx", ["--office", str(work / "hidden")]
+    first, closed = str(TOP / "examples" / "week" / "monday.csv"), ["--date", "2025-09-22", "--second", "--yes"]
+    must_do(["init", own[1], first], ["close", *closed, *own])
+    for word in ("1", "true"):
+        write_kept(path)
+        replace_in(path, SHEET_PART, '<row r="2">', f'<row r="2" hidden="{word}">')
+        yield f"a hidden row of a workbook, {word}", told_hidden(Said("import", path), path, "1 of its rows", "row 2")
+    said = Said("hand-in", path, *own)
+    yield "is told where it is handed in", None if "hidden.xlsx: the spreadsheet hides 1" in said.output else said
+    write_kept(path)
+    yield "none is hidden", None if "hides" not in Said("import", path).errors else "told"
+    table = path.with_suffix(".ods")
+    row, group = "<table:table-row", "<table:table-row-group"
+    text = '<table:table-row table:visibility="filter"'
+    for what, old, new in (
+        ("filtered", f"{row} table:number-rows-repeated", f"{text} table:number-rows-repeated"),
+        ("in a closed group", f'{row} table:number-rows-repeated="3"',
+         f'{group} table:display="false">{row} table:number-rows-repeated="3"'),
+    ):  # fmt: skip
+        table.write_bytes(open_document(EQUAL))
+        replace_in(table, "content.xml", old, new)
+        if what != "filtered":
+            replace_in(table, "content.xml", f'{row} table:number-rows-repeated="1048000"',
+                       f'{group[:1]}/{group[1:]}>{row} table:number-rows-repeated="1048000"')  # fmt: skip
+        yield f"rows that are {what}", told_hidden(Said("import", table), table, "3 of its rows", "row 2, 3, 4")
+
+
+def told_hidden(said: Said, path: Path, *words: str) -> object:
+    """Whether it is told that a table hides rows; else what was said."""
+    line = next((line for line in said.errors.splitlines() if "hides" in line), "")
+    return None if not said.status and line.startswith(f"{path}: ") and all(own in line for own in words) else said
 
 
 def damaged_workbooks(work: Path) -> Iterator[tuple[str, object]]:

@@ -3,6 +3,7 @@ command."""
 import csv
 import io
 import json
+import re
 from collections.abc import Iterable, Sequence, Set
 
 from registry_tools.errors import FileFault
@@ -12,14 +13,26 @@ from registry_tools.texts import in_words
 Cell = str | int | None
 # The columns of a fault.
 FAULT = COLUMNS["audit"].names
+# How a cell of a csv begins that a spreadsheet takes for a formula, if it is no number; and what makes it text.
+FORMULA, NUMBER, QUOTE = re.compile("'*[=+\\-@\t]"), re.compile("-[0-9]+"), "'"
+
+
+def as_text(cell: str) -> str:
+    """A cell of a csv that a spreadsheet shows, and never takes for a formula."""
+    return QUOTE + cell if FORMULA.match(cell) and not NUMBER.fullmatch(cell) else cell
+
+
+def as_it_was(cell: str) -> str:
+    """What a cell of a csv said before it was made text."""
+    return cell.removeprefix(QUOTE) if cell.startswith(QUOTE) and FORMULA.match(cell) else cell
 
 
 def as_csv(columns: Sequence[str], rows: Iterable[Sequence[object]]) -> str:
-    """Rows as csv with a header."""
+    """Rows as csv with a header. What a spreadsheet would take for a formula is text there."""
     stream = io.StringIO()
     writer = csv.writer(stream, lineterminator="\n")
     writer.writerow(columns)
-    writer.writerows(rows)
+    writer.writerows([as_text(cell) if isinstance(cell, str) else cell for cell in row] for row in rows)
     return stream.getvalue()
 
 

@@ -56,8 +56,8 @@ class Desk(Terminal):
     }  # fmt: skip
     # What the field of a form is called that says what an option says.
     fields = {
-        "date": "the day", "day": "the day", "from": "the first day", "to": "the last day", "who": "your name",
-        "second": "by the second answer", "yes": "a yes",
+        "date": "the day", "day": "the day", "from": "the first day", "to": "the last day", "who": "Your name",
+        "why": "Why", "second": "by the second answer", "yes": "a yes",
     }  # fmt: skip
 
     def __init__(self, folder: Path | None = None, aside: Path | None = None) -> None:

@@ -16,7 +16,7 @@ from registry_tools import voice
 from registry_tools.calendars import dates
 from registry_tools.cli import words
 from registry_tools.errors import WordsFault
-from registry_tools.office import approve, folder
+from registry_tools.office import approvals, approve, change, folder
 from registry_tools.office.approve import OF_DATES
 
 EXAMPLE = "./day approve --office out/office"
@@ -51,9 +51,11 @@ def run(said: argparse.Namespace) -> int:
 def show_waiting(said: argparse.Namespace) -> int:
     """Shows what waits for whom."""
     with folder.opened(said.office) as office:
-        lines, parts = approve.waiting(office)
-    for part in parts:
-        lines += [f"  {part.place}: {part.name}", *(f"    {row}" for row in part.rows)]
+        handed_in = approvals.handed_in_of(office)
+        lines = [own.line for own in approvals.all_waiting(office, handed_in)]
+        for part in handed_in.waiting:
+            rows = approve.rows_left(handed_in, part) + change.look_at_waiting(office, handed_in, part)
+            lines += [f"  {part.start}: {part.name}", *(f"    {row}" for row in rows)]
     print("\n".join(lines or [NOTHING]))
     return 0
 

@@ -1,7 +1,8 @@
 """Says what is wrong with a day text, for whoever has it open. The first line is what the program says of it, such as
 `row 12: date`; or that it has no fault. Then, for each fault that can be told: where it stands, what was found there,
 with what nobody sees made visible, what is expected, and a guess what happened, where one is likely. Of a text without
-a fault it tells the weekdays that its calendar leaves out: are they holidays?
+a fault it tells the weekdays that its calendar leaves out: are they holidays? And it tells what would be refused, with
+what was found, by the second answer.
 
 It takes also a file that ./day next takes as --do, --work or --changes: its first row says which of them it is.
 
@@ -13,17 +14,22 @@ exit status: 0 if the text has no fault (with --mend: if none is left), else 1.
 """
 import argparse
 import sys
+from collections.abc import Iterator
 
 from registry_tools.calendars import working_days
 from registry_tools.errors import FOUND
 from registry_tools.cli.options import add_day_text, add_to
+from registry_tools.notes import first_of
 from registry_tools.output import write_answer
 from registry_tools.questions.explain import STILL_WRONG, day_or_fault, explained
+from registry_tools.second import rules
 from registry_tools.texts.day_text import DayText
 from registry_tools.texts import explainer
 from registry_tools.texts.explainer import PARTS
 from registry_tools.texts.mending import Mended, mended
 
+# So many refusals are told.
+MOST_REFUSED = 20
 EXAMPLE = "./day explain examples/wrong-date.csv\n  ./day explain examples/first-transfer.csv --mend > out/day.csv"
 
 
@@ -59,6 +65,14 @@ def explain_part(path: str, text: Mended, part: str, to: str | None) -> int:
     return 0
 
 
+def refused(day: DayText) -> Iterator[str]:
+    """What of a day would be refused, with what was found."""
+    for record, logged in enumerate(rules.settle(day.day(), tells=True), day.head.next_record):
+        if logged.passing is not None:
+            name = logged.line.rpartition(",")[2]
+            yield f"record {record} would be refused, {name}: {logged.passing.found}"
+
+
 def run(words: argparse.Namespace) -> int:
     """Runs the command, and answers the exit status."""
     text = mended(words.day)
@@ -74,7 +88,7 @@ def run(words: argparse.Namespace) -> int:
         left_out = working_days.left_out(day.head.working_days)
         if left_out:
             lines.append(f"weekdays without a work row: {working_days.days_in_words(left_out)}")
-        write_answer("\n".join([*lines, ""]), words.to)
+        write_answer("\n".join([*lines, *first_of([*refused(day)], MOST_REFUSED), ""]), words.to)
         return 0
     lines, _ = explained(text)
     write_answer("\n".join([day, *lines, ""]), words.to)

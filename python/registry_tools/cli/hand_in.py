@@ -50,6 +50,6 @@ def run(said: argparse.Namespace) -> int:
     for part in added.parts:
         count, there = f"{handed.NAMES[part.kind]} {part.count}", places(part.start, part.end)
         print(f"handed in: {part.name}: {count}, {there}")
-    print("".join(f"{line}\n" for line in added.waits), end="")
+    print("".join(f"{line}\n" for line in (*added.hidden, *added.waits)), end="")
     print("".join(f"again: {line}\n" for line in added.again), end="")
     return trial.tell(added.looked, added.next_day, added.places())

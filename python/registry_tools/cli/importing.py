@@ -64,6 +64,7 @@ def run(said: argparse.Namespace) -> int:
         print("\n".join(importing.told(made.wrong, "nothing was written")), file=sys.stderr)
         return FILE
     preview(made.rows, made.are_accounts)
+    print("".join(f"{line}\n" for line in made.hidden), end="", file=sys.stderr)
     write_answer("".join(f"{row}\n" for row in made.rows), said.to)
     return 0
 

@@ -17,8 +17,10 @@ from registry_tools.notes import worth_telling
 from registry_tools.office import folder, trial
 from registry_tools.office.composing import NextDay
 from registry_tools.office.trial import Looked
+from registry_tools.texts import in_words
 
 EXAMPLE = "./day try --office out/office"
+COLUMNS = ["", "place", "instruction", "outcome"]
 
 
 def add_words(parser: argparse.ArgumentParser) -> None:
@@ -34,10 +36,19 @@ def run(said: argparse.Namespace) -> int:
         tried = trial.try_next(office, date)
     done = [own for own in tried.looked if own.outcome == "done"]
     if done:
-        print("\n".join(trial.table_of(done)))
+        print("\n".join(table_of(done)))
     status = tell(tried.looked, tried.next_day)
     print("".join(f"{line}\n" for line in tried.otherwise), end="")
     return max(status, FOUND if tried.otherwise else 0)
+
+
+def table_of(looked: list[Looked]) -> list[str]:
+    """The lines of a table of instructions."""
+    rows = [
+        ["*" if tried.is_new else "", str(tried.place or trial.WAITED), tried.words, tried.said()]
+        for tried in looked
+    ]
+    return in_words.table_lines(COLUMNS, rows, {"place"})
 
 
 def tell(looked: list[Looked], next_day: NextDay, places: set[int] | None = None) -> int:
@@ -48,7 +59,8 @@ def tell(looked: list[Looked], next_day: NextDay, places: set[int] | None = None
     for note in worth_telling(next_day.notes):
         print(note)
     if any(tried.outcome != "done" for tried in shown):
-        print("\n".join(trial.table_of([tried for tried in shown if tried.outcome != "done"])))
+        print("\n".join(table_of([tried for tried in shown if tried.outcome != "done"])))
+    print("".join(f"{tried.place or trial.WAITED}: {tried.why}\n" for tried in refused), end="")
     print("".join(f"{name}: {said}\n" for name, said in trial.whys(shown).items()), end="")
     if shown or places is None:
         print(f"{'' if places is None else 'of these, '}as it stands, on {next_day.date}: {trial.counts_of(shown)}")

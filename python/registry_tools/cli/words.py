@@ -5,6 +5,7 @@ import getpass
 import os
 import sys
 from collections.abc import Sequence
+from dataclasses import replace
 
 from registry_tools import outcomes, voice
 from registry_tools.errors import FOUND, WordsFault
@@ -35,6 +36,8 @@ def add_who(parser: argparse.ArgumentParser) -> None:
     parser.add_argument("--who", metavar="NAME", default=user_name(), help=name)
     # (of somebody who looked at the folder before: `./day desk` says it)
     parser.add_argument("--seen", metavar="STATE", help=argparse.SUPPRESS)
+    # (and of what would have come of it then: if that comes of it now, nothing else counts)
+    parser.add_argument("--shown", metavar="SUM", help=argparse.SUPPRESS)
     # (of a desk behind a proxy that office.ini lets speak for others)
     parser.add_argument("--for", dest="whom", metavar="LOGIN", help=argparse.SUPPRESS)
 
@@ -57,7 +60,7 @@ def by(said: argparse.Namespace, office: Office | None) -> By:
         clock = f"the clock of this machine says {voice.time(now)}, and the last event is of {voice.time(last)}"
         to_errors(f"{LOOK}: {clock}: set it right, or what is done now seems to have been done earlier")
     known = office.people if office is not None else People()
-    return by_of(known, said.who, said.whom, said.seen)
+    return replace(by_of(known, said.who, said.whom, said.seen), shown=said.shown)
 
 
 def add_named(parser: argparse.ArgumentParser) -> None:

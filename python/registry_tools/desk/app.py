@@ -13,7 +13,7 @@ from werkzeug.exceptions import HTTPException, NotFound, RequestEntityTooLarge
 from werkzeug.wrappers import Response
 
 from registry_tools import voice
-from registry_tools.desk import coming, gate, heads, machines, pages, posts, questions, shown, words
+from registry_tools.desk import asks, coming, gate, heads, machines, pages, posts, questions, search, shown, words
 from registry_tools.desk.gate import Served
 from registry_tools.errors import Fault, FileFault
 from registry_tools.pages import beside, html
@@ -26,15 +26,19 @@ from registry_tools.texts.in_words import grouped
 
 # What is sent at once is at most as large as one file may be that is handed in.
 MOST_BYTES = limits.MOST_BYTES
-SECTIONS = {
-    "/": "Today", "/hand-in": "Hand in", "/next": "The next day", "/change": "Change", "/close": "Close",
-    "/days": "Days", "/accounts": "Accounts", "/compliance": "Compliance", "/due": "Due", "/month": "Months",
-    "/find": "Find", "/names": "Names", "/journal": "Journal", "/audit": "Audit", "/send": "Send",
-}  # fmt: skip
+GROUPS = {
+    "The day": {"/": "Today", "/hand-in": "Hand in", "/next": "The next day", "/change": "Change", "/close": "Close"},
+    "The registry": {"/accounts": "Accounts", "/find": "Find", "/days": "Days", "/month": "Months"},
+    "Duties": {"/compliance": "Compliance", "/due": "Due", "/send": "Send"},
+    "The folder": {"/names": "Names", "/journal": "Journal", "/audit": "Audit"},
+}
+SECTIONS = {path: name for group in GROUPS.values() for path, name in group.items()}
 # What tries a change, and takes it back: it is of no moment before.
-OF_TRIALS = {"/undo"}
+OF_TRIALS, LOOK = {"/undo"}, "/look/"
 # What a desk that only looks has no use for.
 OF_CHANGES = {"/hand-in", "/change", "/close"}
+# What is said of an address that is none.
+OTHER = {404: "No page of this desk has this address."}
 # As what a table is had, besides on its page.
 FILES = "<any(csv, xlsx, json):kind>"
 GET: dict[str, Callable[..., Any]] = {
@@ -43,20 +47,22 @@ GET: dict[str, Callable[..., Any]] = {
     "/release": pages.release, "/name": pages.name, "/names": questions.names,
     "/accounts": questions.accounts, "/accounts/<int:number>": questions.account, "/compliance": questions.compliance,
     "/due": coming.page, "/due.<any(csv, xlsx, json, ics):kind>": coming.as_file,
-    "/month": questions.month_page, "/find": questions.find, f"/find.{FILES}": questions.find_file,
+    "/approve": pages.approve_page, "/search": search.page, "/month": questions.month_page,
+    "/find": questions.find, f"/find.{FILES}": questions.find_file,
     f"/accounts.{FILES}": questions.accounts_file, f"/accounts/<int:number>/history.{FILES}": questions.history_file,
     f"/compliance.{FILES}": questions.compliance_file, f"/names.{FILES}": questions.names_file,
     "/table.<any(csv, xlsx):kind>": questions.table_file,
     "/journal": questions.journal, f"/journal.{FILES}": questions.journal_file, f"/days.{FILES}": questions.days_file,
     f"/month.{FILES}": questions.month_file, "/audit": questions.audit, "/send": questions.send,
+    "/hand-in/look/<key>": asks.look, "/change/look/<key>": asks.look, "/names/look/<key>": asks.look,
     "/jobs/<number>": questions.job, "/jobs/<number>/packages.zip": questions.packages,
 }  # fmt: skip
 POST: dict[str, Callable[..., Any]] = {
-    "/name": posts.name, "/hand-in/look": posts.look, "/hand-in/take": posts.take, "/next/take-back": posts.take_back,
+    "/name": posts.name, "/hand-in/look": asks.ask, "/hand-in/take": posts.take, "/next/take-back": posts.take_back,
     # (a look is kept, so that the next one tells what is new)
     "/next/seen": functools.partial(posts.begin, command="try"),
-    "/change/look": posts.look_at_change, "/change/make": posts.make_change, "/close/settle": posts.settle,
-    "/undo/yes": posts.undo, "/release/yes": posts.release, "/names/look": posts.look_at_names,
+    "/change/look": asks.ask, "/change/make": posts.make_change, "/close/settle": posts.settle,
+    "/undo/yes": posts.undo, "/release/yes": posts.release, "/names/look": asks.ask,
     "/names/give": posts.give_names, "/approve": posts.approve, "/audit/begin": posts.audit, "/send/begin": posts.send,
 }  # fmt: skip
 # What programs ask where the system alone says who comes (door.py).
@@ -78,7 +84,7 @@ def make(served: Served) -> flask.Flask:
     setattr(formparser, "RequestEntityTooLarge", RequestEntityTooLarge)
     # (cookies know no ports: another desk has another one)
     app.config.update(
-        SECRET_KEY=secrets.token_bytes(32),
+        SECRET_KEY=served.secret,
         MAX_CONTENT_LENGTH=MOST_BYTES, SESSION_COOKIE_NAME=f"desk-{served.host.rpartition(':')[2]}",
         SESSION_COOKIE_HTTPONLY=True, SESSION_COOKIE_SAMESITE="Strict",
     )  # fmt: skip
@@ -112,7 +118,7 @@ def make(served: Served) -> flask.Flask:
 def shown_now(served: Served, view: Callable[..., Any], **more: Any) -> Any:
     """What a view shows of the folder as it is at one moment."""
     # (what a change of this page builds on is of the same moment)
-    if flask.request.path in OF_TRIALS:
+    if flask.request.path in OF_TRIALS or LOOK in flask.request.path:
         flask.g.state = served.reading.state()
         return view(served, **more)
     with served.reading.moment():
@@ -123,8 +129,8 @@ def shown_now(served: Served, view: Callable[..., Any], **more: Any) -> Any:
 def changed(served: Served, view: Callable[..., Any]) -> Any:
     """What a form does that changes something: once, also if it is sent again. A desk that only looks refuses it."""
     if served.is_look and flask.request.path not in OF_LOOKING:
-        return gate.said(403, "This desk shows all, and changes nothing.")
-    number = posts.form("once")
+        return gate.said(403, "This desk shows all, and changes nothing.", title="Nothing was done")
+    number = shown.form("once")
     if number in served.jobs.jobs:
         return flask.redirect(f"/jobs/{number}", 303)
     flask.g.state = served.reading.state()
@@ -134,26 +140,29 @@ def changed(served: Served, view: Callable[..., Any]) -> Any:
 def failed(served: Served, error: Exception) -> Any:
     """What went wrong, on a page."""
     if isinstance(error, HTTPException):
-        own = error.description if isinstance(error, NotFound) and error.description != NotFound.description else None
-        return gate.said(error.code or 500, own or f"{error.name}.")
+        own = error.description if isinstance(error, NotFound) and error.description != NotFound.description else ""
+        code = error.code or 500
+        return gate.said(code, str(own or OTHER.get(code, f"{error.name}.")))
     if isinstance(error, OSError):
         name = Path(str(error.filename or "the folder")).name
         return gate.said(500, f"{name}: it cannot be read or written: {error.strerror or 'for a reason not known'}")
     asked = flask.request
     is_typed = asked.path in SECTIONS and asked.args and shown.TYPED not in asked.args
-    back = posts.way_back() if asked.method == "POST" else shown.address(typed=1) if is_typed else ""
+    back = shown.back_of_form() if asked.method == "POST" else shown.address(typed=1) if is_typed else ""
     return gate.said(409 if isinstance(error, FileFault) else 400, str(error), back=back)
 
 
 def dress(app: flask.Flask, served: Served) -> None:
     """What all templates know."""
-    sections = {path: name for path, name in SECTIONS.items() if not (served.is_look and path in OF_CHANGES)}
+    hidden = OF_CHANGES if served.is_look else set()
+    groups = {of: {path: own[path] for path in own if path not in hidden} for of, own in GROUPS.items()}
     app.jinja_env.globals.update(
-        sections=sections, is_look=served.is_look, of_looking=OF_LOOKING, office=served.path.name,
+        groups=groups, is_look=served.is_look, of_looking=OF_LOOKING, office=served.path.name,
         token=lambda: flask.session["token"], once=lambda: secrets.token_hex(8), state=lambda: flask.g.state,
         who=lambda: gate.known_name(served), says_name=not (served.who or served.proxy or served.door),
         may_not=lambda: gate.may_not(served), apart=beside.apart, time=voice.time,
-        table=shown.sorted_table, acts=faults.ACT_WORDS, meaning=lambda name: form_checks()[name].meaning,
+        zone=words.zone, table=shown.sorted_table, acts=faults.ACT_WORDS,
+        meaning=lambda name: form_checks()[name].meaning,
     )  # fmt: skip
     app.jinja_env.filters.update(
         grouped=grouped, label=words.label, date=long_date,

@@ -38,7 +38,7 @@ def page(served: Served) -> Any:
 def found_until(own: Reading) -> tuple[list[due.Due], datetime.date]:
     """What is due up to the day of the address, or as many days ahead as the office says; and that day."""
     office, word = own.office(), asked("until")
-    until = date_of("the last day", word) if word else due.last_shown(office)
+    until = date_of("Up to the day", word) if word else due.last_shown(office)
     state = f"{own.all_states()} {datetime.date.today()}"
     return own.once(("due", until, voice.is_desk()), state, lambda: due.due_until(office, until)), until
 

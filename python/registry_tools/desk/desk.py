@@ -118,13 +118,14 @@ def serve_at(path: Path, socket: str, header: str, is_look: bool) -> None:
     from registry_tools.desk.commands import Coming
     from registry_tools.desk.gate import Served
     from registry_tools.desk.jobs import private_folder
+    from registry_tools.desk.kept import Kept
 
     gc.enable()
     progress.is_shown = False
     with private_folder() as own:
         # (cookies know no sockets: another desk has another one)
         named = f"socket:{hashlib.sha256(os.fsencode(os.path.abspath(socket))).hexdigest()[:8]}"
-        at_door = door.Door(path, header)
+        at_door = door.Door(path, header, Kept(socket))
         served = Served(path, named, own, None, None, is_look, at_door)
         coming = Coming(path, own, at_door, is_look)
 

@@ -24,6 +24,7 @@ from registry_tools.cli.calling import COMMANDS
 from registry_tools.cli.link import LINKS
 from registry_tools.desk import heads, log
 from registry_tools.desk.heads import Head, Refusal
+from registry_tools.desk.kept import Kept
 from registry_tools.errors import FileFault, WordsFault
 from registry_tools.layout import SETTINGS
 from registry_tools.office import people, settings
@@ -80,9 +81,9 @@ def peer_at(own: socket.socket) -> Peer:
 class Links:
     """The links that were made, by the sums of their keys: whoever reads the memory of a log finds no key."""
 
-    def __init__(self) -> None:
-        self.lock = threading.Lock()
-        self.there: dict[str, Link] = {}
+    def __init__(self, kept: Kept | None = None) -> None:
+        self.lock, self.kept = threading.Lock(), kept
+        self.there = {name: Link(*own) for name, own in kept.links.items()} if kept else {}
 
     def make(self, login: str) -> tuple[str, float]:
         """A new link for a login: its key, and until when it counts. Of too many, the first one ends."""
@@ -92,7 +93,15 @@ class Links:
             for name in own[: max(len(own) - MOST_LINKS + 1, 0)]:
                 del self.there[name]
             self.there[link_name(key)] = Link(login, until)
+            self.keep()
         return key, until
+
+    def keep(self) -> None:
+        """Keeps those that count still, for the time behind a restart."""
+        if self.kept is not None:
+            there = {name: (own.login, own.until) for name, own in self.there.items() if time.time() < own.until}
+            self.kept.links = there
+            self.kept.write()
 
     def end(self, login: str) -> int:
         """Ends all links of a login, and answers how many there were."""
@@ -100,6 +109,7 @@ class Links:
             own = [name for name, link in self.there.items() if link.login == login]
             for name in own:
                 del self.there[name]
+            self.keep()
         return len(own)
 
     def counts(self, name: object, login: str) -> bool:
@@ -116,8 +126,8 @@ def link_name(key: str) -> str:
 class Door:
     """Who may come to the desk of a folder."""
 
-    def __init__(self, folder: Path, header: str = HEADER) -> None:
-        self.folder, self.header, self.links = folder, header, Links()
+    def __init__(self, folder: Path, header: str = HEADER, kept: Kept | None = None) -> None:
+        self.folder, self.header, self.links = folder, header, Links(kept)
 
     def people(self) -> People:
         """The people whom office.ini names. Raises FileFault."""

@@ -10,9 +10,9 @@ from typing import Iterable, Iterator, Mapping, Sequence
 from registry_tools.desk.reading import Reading
 from registry_tools.desk.words import LAGS, label
 from registry_tools.errors import WordsFault, shown
-from registry_tools.texts.labels import ACCOUNT, Labels
+from registry_tools.texts.labels import ACCOUNT, USER, Labels
 from registry_tools.pages.beside import called
-from registry_tools.second import faults, rules
+from registry_tools.second import faults, passing, rules
 from registry_tools.sheets import columns as sheets
 from registry_tools.sheets import importing
 from registry_tools.sheets.sheets import read_content
@@ -31,6 +31,8 @@ BEFORE, BEHIND = 15, 5
 OTHER, KEEP, DROP = "another day", "keep", "leave out"
 OTHER_ROWS = ("emissions", "figure")
 NUMERIC, NEEDED = 'inputmode="numeric"', 'inputmode="numeric" required'
+# How the last day of a year may be written in a spreadsheet.
+DATES = ["", "31.12.2026", "31/12/2026", "12/31/2026"]
 # So many working days are offered that are to be none any more, and so many accounts.
 MOST_WORKING, MOST_OFFERED = 30, 1_000
 Said = Mapping[str, str]
@@ -58,12 +60,20 @@ def accounts_offered(own: Reading) -> list[tuple[int, str]]:
     return [(int(row[1]), account_offered(row, names)) for row in rows]
 
 
+def cut_told(own: Reading) -> str:
+    """That not all accounts are offered, and how the others are found; nothing, if all are."""
+    settled = own.settled()
+    count = len(settled.report.book) if settled else 0
+    return f"The first {MOST_OFFERED:,} of {count:,} accounts are offered here." if count > MOST_OFFERED else ""
+
+
 def account_offered(row: Sequence[str], names: Labels) -> str:
     """What somebody knows an account by, and what it holds, by the fields of its row."""
     kinds = f"{row[2]} of {names.holder(row[3])}, {row[4]}: general {grouped(row[8])}, aviation {grouped(row[9])}"
     return ", ".join(filter(None, [names.name_of(ACCOUNT, row[1]), kinds]))
 
 
+NEW_USER = "One more user"
 RIGHT_OF_NEW = Field("new_right", "who may", "both", RIGHTS)
 # What is asked for of a new account.
 OF_NEW = [
@@ -73,8 +83,47 @@ OF_NEW = [
 ]  # fmt: skip
 
 
-def instruction_fields(own: Reading, act: str) -> list[Field]:
-    """What the form of an instruction asks for."""
+def account_meant(own: Reading, word: str) -> int | None:
+    """The account that a word names by its number or its name; None, if it names none that is there."""
+    with contextlib.suppress(WordsFault):
+        number = int(word) if word.isascii() and word.isdigit() else int(own.names().one(word, ACCOUNT).number)
+        return number if number in own.text_of_next().book else None
+    return None
+
+
+def users_entitled(own: Reading, act: str, number: int | None) -> dict[str, list[tuple[int, str]]]:
+    """Who may propose and approve an act for an account, with their names; nobody, if none is named."""
+    if number is None:
+        return {right: [] for right in ("propose", "approve")}
+    day, names = own.text_of_next(), own.names()
+    account = day.book[number].account()
+    there = {right: passing.entitled(day.head, account, act, right) for right in ("propose", "approve")}
+    return {right: [(user, names.user(user)) for user in users] for right, users in there.items()}
+
+
+def told_of_account(own: Reading, number: int) -> str:
+    """What somebody knows an account by, and what it holds before the next day."""
+    row = own.text_of_next().book[number].rows[0].split(",")
+    return f"{number}: {account_offered(row, own.names())}"
+
+
+def numbers_in(said: Said, names: Labels) -> dict[str, str]:
+    """What a form says, with the numbers of accounts and users in place of their names. Raises WordsFault if something
+    has no such name, or several have."""
+    kinds = {**dict.fromkeys(OF_ACCOUNTS, ACCOUNT), "proposer": USER, "approver": USER}
+    found = {name: word.strip() for name, word in said.items()}
+    for name, kind in kinds.items():
+        word = found.get(name, "")
+        if word and not word.isdigit() and names.named:
+            try:
+                found[name] = names.one(word, kind).number
+            except WordsFault as fault:
+                raise WordsFault(f"{label(name)}: {fault}") from None
+    return found
+
+
+def instruction_fields(own: Reading, act: str, of: int | None = None) -> list[Field]:
+    """What the form of an instruction asks for, with the account that it is of, if one is named."""
     now: object = OTHER
     proposed = [now]
     # (where the next day cannot be made, its own page says why)
@@ -86,9 +135,10 @@ def instruction_fields(own: Reading, act: str) -> list[Field]:
     return [
         Field("proposed", label("proposed"), now, proposed),
         Field("other_day", "Another day, as 2025-09-24, if it is none of these", more=""),
-        Field("proposer", label("proposer"), more=NEEDED), Field("approver", "User who approves, if there is one"),
-        *(Field(name, label(name), "", CHOICES.get(name, ()),
-                more=NUMERIC + (' list="accounts"' if name in OF_ACCOUNTS else "")) for name in columns),
+        Field("proposer", label("proposer"), more='required list="propose"'),
+        Field("approver", "User who approves, if there is one", more='list="approve"'),
+        *(Field(name, label(name), of or "" if name == passing.FIRST[act] else "", CHOICES.get(name, ()),
+                more='list="accounts"' if name in OF_ACCOUNTS else NUMERIC) for name in columns),
     ]  # fmt: skip
 
 
@@ -122,7 +172,7 @@ def account_fields(block: Block, periods: int) -> Iterator[Field]:
         options = [KEEP, *(other for other in RIGHTS if other != right), DROP]
         words = f"--user=+{user}:{{}}", f"--user=-{user}"
         yield Field(f"user-{user}", f"User {user} may {called(right)}", KEEP, options, *words)
-    yield Field("new_user", "One more user")
+    yield Field("new_user", NEW_USER)
     yield RIGHT_OF_NEW
     corrections = {"1": row[7], **{own[1]: own[2] for own in lists if own[0] == "correction"}}
     for period in map(str, range(1, periods + 1)):
@@ -152,14 +202,15 @@ def rule_fields(day: DayText) -> Iterator[Field]:
     yield Field("not_working", "A day that is no working day any more", "", ["", *later], "--not-working={}")
 
 
-def words_of_change(said: Said, own: Reading) -> Iterator[str]:
-    """The words of ./day change for what a form says otherwise than it is. WordsFault if there is no such account."""
+def words_of_change(said: Said, own: Reading) -> Iterator[tuple[str, str]]:
+    """The words of ./day change for what a form says otherwise than it is, each with the label of its field. WordsFault
+    if there is no such account."""
     day, of, number = own.text_of_next(), said.get("of", ""), said.get("account", "")
     fields: Iterable[Field] = rule_fields(day) if of == "rules" else ()
     if of == "account":
         if not number.isascii() or not number.isdigit() or int(number[:10]) not in day.book:
             raise WordsFault("there is no such account in the next day's text")
-        yield number
+        yield "", number
         fields = account_fields(day.book[int(number)], len(day.head.periods))
     for field in fields:
         asked = said.get(field.name, str(field.now))
@@ -168,10 +219,13 @@ def words_of_change(said: Said, own: Reading) -> Iterator[str]:
             raise WordsFault(f"{field.label}: found {shown(asked)}; expected {expected}")
         word = field.drop if asked == DROP else field.word.format(asked)
         if word and asked != str(field.now):
-            yield word
+            yield field.label, word
     if of == "rules" and (said.get("first") or said.get("last")):
-        yield f"--period={said.get('first', '')}-{said.get('last', '')}"
+        yield "The years of one more period", f"--period={said.get('first', '')}-{said.get('last', '')}"
     if of == "new":
-        yield f"--open-account={','.join(said.get(name, '') for name in ('number_of_account', 'kind', 'holder'))}"
+        made = [said.get(own.name, "") for own in OF_NEW[:3]]
+        # (the first that is no number is told)
+        label = next((own.label for own, word in zip(OF_NEW, made) if not own.options and not word.isdigit()), "")
+        yield label, f"--open-account={','.join(made)}"
     if of != "rules" and said.get("new_user"):
-        yield f"--user=+{said['new_user']}:{said.get('new_right', '')}"
+        yield OF_NEW[3].label if of == "new" else NEW_USER, f"--user=+{said['new_user']}:{said.get('new_right', '')}"

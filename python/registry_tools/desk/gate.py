@@ -16,8 +16,9 @@ from registry_tools.desk import heads, log
 from registry_tools.desk.door import NO_LINK, NOT_NAMED, Caller, Door, link_name, peer_of
 from registry_tools.desk.heads import LONGEST_NAME, MOST_FORM, Head, Proxy, Refusal
 from registry_tools.desk.jobs import Jobs
+from registry_tools.desk.kept import BYTES, signed_by
 from registry_tools.desk.reading import Reading
-from registry_tools.desk.shown import show_page
+from registry_tools.desk.shown import back_of_form, show_page
 from registry_tools.cli.words import one_line
 from registry_tools.errors import FileFault, RightsFault, WordsFault
 from registry_tools.layout import SETTINGS
@@ -34,7 +35,7 @@ HEADERS = {
     "Cache-Control": "no-store", "Cross-Origin-Opener-Policy": "same-origin",
     "Cross-Origin-Resource-Policy": "same-origin",
 }  # fmt: skip
-PLAIN = "text/plain; charset=utf-8"
+PLAIN, OTHER_TOKEN = "text/plain; charset=utf-8", "its token is not that of the browser"
 NO_DAY = "No day is settled yet: Today leads to the first one."
 # Who looks, and has not said a name yet.
 NOBODY = "nobody yet"
@@ -59,6 +60,9 @@ class Served:
         # What the link has: 128 bits.
         self.key = secrets.token_urlsafe(16)
         self.reading, self.jobs = Reading(path, private), Jobs(path, private)
+        # By what cookies are signed: after a restart by the same, where somebody else than the link says who it is.
+        links = door.links.kept if door is not None else None
+        self.secret = links.key if links else signed_by(proxy.secret, path) if proxy else secrets.token_bytes(BYTES)
 
 
 def head() -> Head:
@@ -173,7 +177,7 @@ def refusal_of_form() -> Refusal | None:
         token = request.form.get("token", "").encode("utf-8", "replace")
         other = "The form is not of this desk, or it was started anew since. Nothing was done: look once more."
         is_own = hmac.compare_digest(token, flask.session["token"].encode())
-        return None if is_own else Refusal(403, other, "its token is not that of the browser")
+        return None if is_own else Refusal(403, other, OTHER_TOKEN)
     is_known = request.method in ("GET", "HEAD")
     return None if is_known else Refusal(405, "That is no method of this desk.", "no method of the desk")
 
@@ -181,7 +185,9 @@ def refusal_of_form() -> Refusal | None:
 def refuse(own: Head, refusal: Refusal) -> Response:
     """The page of a request that is refused."""
     log.refused(own.peer, own.method, own.path, refusal.code, refusal.why)
-    return said(refusal.code, refusal.text, is_again=refusal.is_again)
+    # (what was typed is there again)
+    back = back_of_form() if refusal.why == OTHER_TOKEN else ""
+    return said(refusal.code, refusal.text, is_again=refusal.is_again, back=back)
 
 
 def enter(served: Served, own: Head, key: str) -> Any:
@@ -204,11 +210,31 @@ def with_headers(response: Response) -> Response:
     return response
 
 
-def said(code: int, text: str, is_again: bool = False, back: str = "") -> Response:
+# What happened, by the status of the page that tells more.
+HAPPENED = {
+    403: "You are not let in", 404: "There is no such page", 405: "There is no such page", 413: "The form is too long",
+    409: "What was read has a fault", 500: "The folder cannot be read or written",
+}  # fmt: skip
+# Of a text that says by itself what happened, in front of a colon, so much is a title.
+LONGEST_TITLE = 80
+
+
+def title_of(code: int, text: str) -> str:
+    """What happened, as the title of a page that tells more."""
+    if code != 400 and not (code == 404 and ":" in text):
+        return HAPPENED.get(code, "Nothing was done")
+    first = text.partition(":")[0]
+    if code == 404 or text.startswith(NO_DAY):
+        return first[:1].upper() + first[1:LONGEST_TITLE]
+    return "Nothing was done" if flask.request.method == "POST" else "It cannot be shown as it was asked for"
+
+
+def said(code: int, text: str, is_again: bool = False, back: str = "", title: str = "") -> Response:
     """A page that says one thing. `is_again`: it leads to the page that was asked for; `back` is a form."""
     path = flask.request.full_path.rstrip("?") if is_again and flask.request.method == "GET" else ""
     # (two slashes would lead to another host)
-    return show_page("said", "No", code, text=text, path="/" + path.lstrip("/\\") if path else "", back=back)
+    own = title or title_of(code, text)
+    return show_page("said", own, code, text=text, path="/" + path.lstrip("/\\") if path else "", back=back)
 
 
 class Sessions(SecureCookieSessionInterface):

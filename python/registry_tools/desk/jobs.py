@@ -5,6 +5,7 @@ one takes away."""
 import contextlib
 import fcntl
 import os
+import re
 import secrets
 import shutil
 import signal
@@ -26,6 +27,8 @@ from registry_tools.streams import names
 COMMAND = isolated.command_by()
 # So many answers are kept, and so long (in seconds) an upload waits for its yes.
 MOST_JOBS, UPLOAD_AGE = 200, 3_600
+# So many things are asked for at a time, in forms of so many letters each.
+MOST_ASKED, MOST_LETTERS = 1_000, 1 << 16
 # So many uploads wait at a time, of so many bytes in all, and each has so many files at most.
 MOST_WAITING, MOST_BYTES_WAITING, MOST_FILES = 100, 1 << 30, 1_000
 # So long the desk waits for the commands at its end, before it ends them otherwise.
@@ -39,6 +42,8 @@ MADE, PREFIX, LOCK = "made", "day-desk-", "lock"
 # The commands whose status says what they found, and not that they did nothing.
 FINDING = ("hand-in", "audit", "try", "status", "send")
 NOTHING = "Nothing was done."
+KEY = re.compile("[0-9a-f]{32}")
+FORGOTTEN = "the desk knows nothing of this look any more"
 Started = subprocess.Popen[bytes]
 
 
@@ -105,6 +110,22 @@ class Job:
         return sorted(folder.iterdir()) if folder.is_dir() else []
 
 
+@dataclass
+class Asked:
+    """What somebody asks for and looks at before a yes: the page of its form, what the form says, and the upload with
+    its files. Of its yes, the number of the form that said it, and the reason."""
+
+    page: str
+    said: dict[str, list[str]]
+    place: str
+    number: str = ""
+    why: str = ""
+
+    def first(self) -> dict[str, str]:
+        """What each field says; of several, the first one."""
+        return {name: words[0].strip() for name, words in self.said.items()}
+
+
 def begin(line: list[str], folder: Path, out: Path) -> Started:
     """Starts a command in a folder, and has its streams written into files."""
     with open(out / "stdout", "wb") as stdout, open(out / "stderr", "wb") as stderr:
@@ -125,8 +146,11 @@ class Jobs:
         self.jobs: dict[str, Job] = {}
         # The files of uploads in the order in which they came: it decides who is first.
         self.uploads: dict[str, list[Given]] = {}
-        # How many bytes came with each.
+        # How many bytes came with each, and which may go first, since nothing comes of them as they are.
         self.sizes: dict[str, int] = {}
+        self.spent: set[str] = set()
+        # What is asked for, by what stands in the address of its look.
+        self.asked: dict[str, Asked] = {}
 
     def start(self, number: str, command: str, words: list[str], seen: str, back: str, makes: bool) -> Job:
         """Starts a command, or gives the one that this form has started. It works in a folder of its own, where nothing
@@ -161,6 +185,24 @@ class Jobs:
             with contextlib.suppress(subprocess.TimeoutExpired):
                 job.process.wait(MOST_SECONDS)
 
+    # What is asked for.
+
+    def ask(self, asked: Asked) -> str:
+        """Keeps what somebody asks for, and answers by what it is found again. Raises WordsFault if it is too long."""
+        if sum(len(word) for words in asked.said.values() for word in words) > MOST_LETTERS:
+            raise WordsFault("the form is too long")
+        with self.lock:
+            key = secrets.token_hex(16)
+            self.asked[key] = asked
+            for old in [*self.asked][: max(len(self.asked) - MOST_ASKED, 0)]:
+                del self.asked[old]
+        return key
+
+    def asked_for(self, page: str, key: str) -> Asked | None:
+        """What was asked for on a page; None, if the desk knows nothing of it."""
+        asked = self.asked.get(key)
+        return asked if asked is not None and asked.page == page else None
+
     # Uploads.
 
     def new_upload(self, size: int) -> Path:
@@ -170,6 +212,10 @@ class Jobs:
             for name in [*self.uploads]:
                 old = self.private / name
                 if not old.is_dir() or old.stat().st_mtime < time.time() - UPLOAD_AGE:
+                    self.forget_upload(name)
+            waiting = sum(self.sizes.values())
+            if len(self.uploads) >= MOST_WAITING or waiting + size > MOST_BYTES_WAITING:
+                for name in [*self.spent]:
                     self.forget_upload(name)
             waiting = sum(self.sizes.values())
             if len(self.uploads) >= MOST_WAITING:
@@ -185,6 +231,7 @@ class Jobs:
         """Takes an upload away."""
         self.uploads.pop(name, None)
         self.sizes.pop(name, None)
+        self.spent.discard(name)
         shutil.rmtree(self.private / name, ignore_errors=True)
 
     def place_for(self, folder: Path, name: str) -> Path:

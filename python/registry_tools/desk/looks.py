@@ -1,24 +1,28 @@
 """What would come of files, of changes by hand, of names and of taking a day back, before somebody says yes: by the
 functions behind the commands, whose change of the folder is taken back at once."""
+import contextlib
 import datetime
-import functools
-from dataclasses import dataclass, field
+from dataclasses import dataclass, field, replace
 from typing import Any
 
 from registry_tools.cli import change as words_of_change, label as words_of_names
 from registry_tools.desk.reading import Reading
 from registry_tools.desk.words import label
-from registry_tools.errors import Fault
-from registry_tools.office import approvals, change, hand_in, handed, label as labelling, trial, undo
+from registry_tools.errors import Fault, WordsFault
+from registry_tools.office import (
+    approvals, approve, change, composing, hand_in, handed, label as labelling, trial, undo,
+)  # fmt: skip
 from registry_tools.office.change import Change, Changed
 from registry_tools.office.hand_in import HandIn
 from registry_tools.office.handed import HandedIn, Part
 from registry_tools.office.incoming import Forms, Given, TableFault
-from registry_tools.office.office import By
+from registry_tools.office.office import By, sum_of_outcome
 from registry_tools.office.waits import waits_of
 from registry_tools.cli.options import TellingWords
 from registry_tools.pages.beside import item_in_words, side_by_side
+from registry_tools.pairs.edits import Edit
 from registry_tools.texts.in_words import instruction_in_words
+from registry_tools.texts.labels import Label, Labels
 
 # What an instruction that was typed is called.
 TYPED = "typed at the desk.csv"
@@ -76,41 +80,87 @@ def faults_of_table(fault: TableFault, is_of_form: bool) -> list[str]:
     return [f"{label(own.field)}: found {own.found}; expected {own.expected}" for own in fault.wrong[:MOST_TOLD]]
 
 
-def look_at_change(own: Reading, by: By, asked: list[str]) -> Changed:
-    """What a change by hand would make of the next day, by the words of the command."""
-    parser = TellingWords()
+def edits_asked(asked: list[tuple[str, str]]) -> list[Edit]:
+    """The differences that words of the command ask for. A fault of one is told by the label of its field."""
+    parser, made = TellingWords(), list[Edit]()
     words_of_change.add_words(parser)
-    edits = words_of_change.edits_of(parser.parse_args(asked))
+    for count, (label_of, _) in enumerate(asked, 1):
+        try:
+            # (an account alone asks for nothing)
+            if label_of:
+                made = words_of_change.edits_of(parser.parse_args([word for _, word in asked[:count]]))
+        except WordsFault as fault:
+            raise WordsFault(f"{label_of}: {str(fault).partition(': ')[2] or fault}") from None
+    return made or words_of_change.edits_of(parser.parse_args([word for _, word in asked]))
+
+
+def look_at_change(own: Reading, by: By, edits: list[Edit]) -> Changed:
+    """What a change by hand would make of the next day."""
     with own.anew() as office:
         return change.change_by_hand(office, by, Change(tuple(edits), NO_REASON))
 
 
-def look_at_waiting(own: Reading, handed_in: HandedIn, part: Part | None) -> Rows:
-    """What a change that waits for another login makes of the next day: what was there, and what it becomes."""
+@dataclass
+class Second:
+    """What waits for another login: what it is, the rows of a change before and after, the instructions and working
+    days in words with what would come of them, and the sum of all that, by which it is approved as it was shown."""
+
+    waits: approvals.Waits
+    rows: Rows = field(default_factory=list)
+    items: list[tuple[str, str]] = field(default_factory=list)
+    sum: str = ""
+
+
+def look_at_waiting(own: Reading, handed_in: HandedIn, waits: approvals.Waits) -> Second:
+    """What something that waits for another login makes of the next day."""
+    part = waits.part
     if part is None:
-        return []
-    look = functools.partial(change.look_at_waiting, own.office(), handed_in, part)
-    return [*side_by_side(own.of_next(f"place {part.start}", own.dates()[0], look))]
+        return Second(waits)
+
+    def work() -> Second:
+        assert part is not None
+        office, rows = own.office(), approve.rows_left(handed_in, part)
+        becomes, outcomes = change.look_at_waiting(office, handed_in, part), outcomes_with(own, handed_in, part)
+        there = [item for item in handed_in.items_left(part)] if part.kind in (handed.DO, handed.WORK) else []
+        items = [(item_in_words(item), outcomes.get(item.place, "")) for item in there]
+        return Second(waits, [*side_by_side(becomes)], items, sum_of_outcome([*rows, *becomes]))
+
+    return own.of_next(f"place {part.start}", own.dates()[0], work)
 
 
-def look_at_undo(own: Reading, by: By, last: datetime.date, date: datetime.date) -> tuple[Rows, Rows]:
-    """What would be handed in again, and what would wait again, if the last day was taken back for this day."""
+def outcomes_with(own: Reading, handed_in: HandedIn, part: Part) -> dict[int, str]:
+    """What would come of instructions that wait for another login, by their places, if they counted."""
+    if part.kind != handed.DO:
+        return {}
+    others = [each for each in handed_in.waiting if each.start != part.start]
+    # (what keeps them out of the next day is told where that day is made)
+    with contextlib.suppress(Fault):
+        office = own.office()
+        date = composing.settlement_date(office, handed_in)
+        next_day = composing.compose(office, replace(handed_in, waiting=others).until(date), date)
+        looked = trial.look(next_day, next_day.day(), own.names())
+        return {tried.place: f"{tried.said()} {tried.why}".rstrip() for tried in looked if tried.place is not None}
+    return {}
+
+
+def look_at_undo(own: Reading, by: By, last: datetime.date, date: datetime.date) -> tuple[Rows, Rows, str]:
+    """What would be handed in again, and what would wait again, if the last day was taken back for this day; and the
+    sum of that."""
     with own.anew() as office, office.trying("undo", by):
         filed = undo.last_of(office, last)
         undo.taken_back(office, filed, date, NO_REASON, "")
         there = approvals.handed_in_of(office)
         rows: Rows = [(i.place, item_in_words(i), i.part.name, i.part.who) for i in there.items(*handed.KINDS)]
         waits = [(str(w.due or ""), w.record, instruction_in_words(w.instruction)) for w in waits_of(office)]
-        return rows, [*waits]
+        return rows, [*waits], sum_of_outcome(undo.comes_again(office))
 
 
-def look_at_names(own: Reading, asked: list[str]) -> tuple[Rows, list[str]]:
-    """What names would be new, with what they were, and what may be a slip, by the words of the command. Raises what
+def look_at_names(own: Reading, asked: list[str]) -> tuple[list[Label], Labels, list[str]]:
+    """What names would be new, which there are before, and what may be a slip, by the words of the command. Raises what
     the command does."""
     parser = TellingWords()
     words_of_names.add_words(parser)
     said, before = parser.parse_args(asked), own.names()
     words_of_names.must_fit(said)
     new = labelling.new_of([*words_of_names.asked_of(said)], before)
-    rows: Rows = [(f"{name.kind} {name.number}", before.name_of(*name[:2]), name.name) for name in new]
-    return rows, [*labelling.doubts_of(own.office(), new, before)]
+    return new, before, [*labelling.doubts_of(own.office(), new, before)]

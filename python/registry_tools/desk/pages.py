@@ -4,6 +4,7 @@ import itertools
 import os
 from collections import Counter
 from collections.abc import Callable, Iterator, Mapping, Sequence
+from dataclasses import replace
 from typing import Any
 
 import flask
@@ -12,13 +13,14 @@ from werkzeug.exceptions import NotFound
 from registry_tools import voice
 from registry_tools.calendars.dates import date_of
 from registry_tools.cli.close import compliant_told
-from registry_tools.desk import forms, gate, looks, shown
+from registry_tools.desk import asks, forms, gate, looks, pictures, shown
 from registry_tools.desk.gate import Served
 from registry_tools.desk.reading import Reading
 from registry_tools.desk.shown import asked, number_asked, row_of_taken, show_page, sorted_table
 from registry_tools.errors import Fault, WordsFault
 from registry_tools.notes import LOOK
-from registry_tools.office import approvals, handed, release as releasing, undo as undoing
+from registry_tools.office import approvals, approve, handed, release as releasing, undo as undoing
+from registry_tools.office.office import Office
 from registry_tools.office.trial import Looked, whys
 from registry_tools.office.waits import waits_of
 from registry_tools.pages import summary
@@ -26,11 +28,12 @@ from registry_tools.pages.beside import item_in_words
 from registry_tools.pages.html import Markup, link, paragraph, tag
 from registry_tools.pages.plan import plan_parts
 from registry_tools.pages.settled import (
-    OUTCOMES, Settled, by_hand_parts, kind_of, long_date, outcome_in_words, record_in_words,
+    OUTCOMES, Settled, by_hand_parts, joined_words, kind_of, long_date, outcome_in_words, record_in_words,
 )  # fmt: skip
 from registry_tools.pairs import settling
+from registry_tools.pairs.compliance import last_year_over
 from registry_tools.questions import due, taken
-from registry_tools.second import faults, rules
+from registry_tools.second import faults, passing, rules
 from registry_tools.cli import form
 from registry_tools.texts.books import Sums, sums_of, sums_told
 from registry_tools.texts.in_words import grouped, instruction_in_words
@@ -39,12 +42,11 @@ DAYS = ["Day", "Who", "At", "Records", "Settled by", "Released"]
 TAKEN = ["Place", "What", "Who took it back", "At", "Why"]
 HANDED_IN, FILES = ["Place", "What", "File or reason", "Who"], ["File or reason", "What", "Who", "At"]
 WAITING = ["Due", "Record", "Instruction"]
-# What there are empty tables of; and how the last day of a year may be written in a spreadsheet.
+# What there are empty tables of.
 EMPTY = [own for own in form.WHAT if own != form.LABELS]
-DATES = ["", "31.12.2026", "31/12/2026", "12/31/2026"]
 SECOND = "by the second answer alone: then nothing is proved"
-# So many dates are told that come next.
-MOST_COMING = 5
+# So many dates are told that come next, and over so many days holdings are shown.
+MOST_COMING, DAYS_HELD = 5, 22
 RELEASED = (
     "Released says that others know of a day: letters were sent, or somebody was told what it has. From then on it is "
     "not undone any more, and that is not taken back: what is wrong in it, an instruction of a later day corrects."
@@ -64,25 +66,81 @@ def today(served: Served) -> Any:
         (str(w.due or "no due day in the calendar"), w.record, instruction_in_words(w.instruction))
         for w in waits_of(office)
     ]
-    new: list[Looked] = []
+    looked: list[Looked] = []
     # (where the next day cannot be made, its own page says why)
     with contextlib.suppress(WordsFault):
-        new = [tried for tried in own.tried(None)[1] if tried.is_new] if items or waits else []
+        looked = own.tried(None)[1] if items or waits else []
+    seconds = [looks.look_at_waiting(own, handed_in, waits) for waits in approvals.all_waiting(office, handed_in)]
+    mine = [each for each in seconds if is_for(served, office, each.waits)]
+    name = office.settings.name
     return show_page(
-        "today", "Today", last=last, is_released=office.events.is_released(), items=items, waits=waits, came=own.came,
+        "today", f"{name}, today" if name else "Today", last=last, is_released=office.events.is_released(),
+        items=items, waits=waits, came=own.came,
         missed=due.missed_days(office), taken=[*map(row_of_taken, taken.of(handed_in))],
         coming=due.next_dates(office, MOST_COMING), dates=own.dates(), doubts=due.doubts_of_last(office),
-        new=new, seconds=[(waiting, looks.look_at_waiting(own, handed_in, waiting.part))
-                          for waiting in approvals.all_waiting(office, handed_in)],
+        new=[tried for tried in looked if tried.is_new], mine=mine, figures=figures_of(looked, len(seconds)),
+        seconds=[each for each in seconds if each not in mine], **standing_now(own),
     )  # fmt: skip
+
+
+def approve_page(served: Served) -> Any:
+    """The page of what waits for another login, each as a whole, of which who may approve several chooses some."""
+    own = served.reading
+    office, handed_in = own.office(), own.handed_in()
+    there = [looks.look_at_waiting(own, handed_in, waits) for waits in approvals.all_waiting(office, handed_in)]
+    mine = {each.waits.words for each in there if is_for(served, office, each.waits)}
+    return show_page("approve", "Approve", there=there, mine=mine)
+
+
+def figures_of(looked: list[Looked], seconds: int) -> list[tuple[str, int, str]]:
+    """The figures of the next day as it stands, each with what shows more."""
+    return [
+        ("would be done", sum(tried.outcome == "done" for tried in looked), "/next"),
+        ("would be refused", sum(tried.is_refused for tried in looked), "/next?only=refused"),
+        ("would wait", sum(tried.waits for tried in looked), "/next?only=waiting"),
+        ("wait for another login", seconds, "/approve"),
+    ]
+
+
+def is_for(served: Served, office: Office, waits: approvals.Waits) -> bool:
+    """Whether who is at this browser may approve it."""
+    if waits.part is None or served.is_look:
+        return False
+    with contextlib.suppress(WordsFault):
+        mine = replace(office, login=gate.by(served).login)
+        approve.must_be_other(mine, (approvals.COMMAND_OF[waits.part.kind],), waits.part.who, waits.part.login)
+        return True
+    return False
+
+
+def standing_now(own: Reading) -> dict[str, Any]:
+    """What all accounts hold, and who is missing how much by when, after the last day, if there is one."""
+    settled = own.settled()
+    if settled is None:
+        return {}
+    year, held = last_year_over(settled.head), own.held_over(DAYS_HELD)
+    missing = [(one.account.number, int(one.missing), one.account.holder) for one in own.standings(year) if one.missing]
+    until, most = own.office().settings.due.surrender_of(year), max((row[1] for row in missing), default=0)
+
+    def cells(row: Sequence[Any]) -> Sequence[Any]:
+        account = link(f"/accounts/{row[0]}", own.names().account(row[0]))
+        return joined_words(account, own.names().holder(row[2])), grouped(row[1]), pictures.length_of(row[1], most)
+
+    return {"held": pictures.holdings(held), "year": year, "until": long_date(until) if until else "",
+            "missing": sorted(missing, key=lambda row: -int(row[1])), "shown_missing": cells}  # fmt: skip
 
 
 def hand_in(served: Served) -> Any:
     """The page with the forms for instructions and files."""
     act, own = asked("act") if asked("act") in faults.ACT_WORDS else "", served.reading
+    # (behind a no, the field has what was typed)
+    word = flask.request.args.get(passing.FIRST.get(act, "of"), "") or flask.request.args.get("of", "")
+    of = forms.account_meant(own, word.strip()) if word else None
     return show_page(
-        "hand_in", "Hand in", act=act, fields=forms.instruction_fields(own, act) if act else [], empty=EMPTY,
-        known=forms.accounts_offered(own) if act else [], dates=DATES, later=forms.LATER,
+        "hand_in", "Hand in", act=act, fields=forms.instruction_fields(own, act, of) if act else [], empty=EMPTY,
+        of=of, of_account=forms.told_of_account(own, of) if of else "", users=forms.users_entitled(own, act, of),
+        known=forms.accounts_offered(own) if act else [], cut=forms.cut_told(own), dates=forms.DATES, later=forms.LATER,
+        look=asked("look"), chosen=asks.chosen(served, asked("look")),
     )  # fmt: skip
 
 
@@ -141,12 +199,13 @@ def change(served: Served) -> Any:
     if number is not None:
         fields = [*forms.account_fields(day.book[number], len(day.head.periods))]
     known = forms.accounts_offered(own) if of == "account" and number is None else []
-    return show_page("change", "Change", account=number, of=of, date=day.head.date, fields=fields, known=known)
+    return show_page("change", "Change", account=number, of=of, date=day.head.date, fields=fields, known=known,
+                     cut=forms.cut_told(own))  # fmt: skip
 
 
 def close(served: Served) -> Any:
     """The page that asks whether the next day is settled."""
-    own, why, outcome_of = served.reading, "", None
+    own, why, outcome_of, comes = served.reading, "", None, ""
     dates, program = own.dates(), own.office().settings.program
     # (by its name alone: where a program lies on the disk is nothing for a page)
     settler = settling.settler_in_words(os.path.basename(program))
@@ -155,7 +214,7 @@ def close(served: Served) -> Any:
     engines = [("", f"by {named}, and compared with the second answer")] if settler else []
     date = asked("other") or asked("date") or str(dates[0])
     try:
-        outcome_of, left = own.closing(date)
+        (outcome_of, comes), left = own.closing(date)
         notes = [*outcome_of.notes, *left, *compliant_told(outcome_of)]
     except Fault as fault:
         why, notes = str(fault), []
@@ -165,6 +224,7 @@ def close(served: Served) -> Any:
         alerts=[note.removeprefix(f"{LOOK}: ") for note in notes if note.startswith(LOOK)],
         totals=totals_of(outcome_of.before, outcome_of.after) if outcome_of else "",
         engines=[*engines, ("1", SECOND)], engine="" if settler and not is_built else "1",
+        shown=comes,
     )  # fmt: skip
 
 
@@ -201,7 +261,7 @@ def undo(served: Served) -> Any:
         date = undoing.date_again(office, last, date_of("the day", asked("date")) if asked("date") else None)
         settled, before = own.settled(last.date), [event.date for event in office.events.days[:-1]][-1:]
         assert settled is not None  # (it is the last day)
-    again, waits = own.of_next("undo", date, lambda: looks.look_at_undo(own, by, last.date, date))
+    again, waits, comes = own.of_next("undo", date, lambda: looks.look_at_undo(own, by, last.date, date))
     earlier = [own for own in settled.head.working_days if before and before[0] < own < last.date]
     count, said = Counter(map(kind_of, settled.log)), long_date(last.date)
     told = ", ".join(f"{count[kind]} {kind}" for kind in OUTCOMES)
@@ -212,7 +272,8 @@ def undo(served: Served) -> Any:
         told=[sorted_table("Handed in then", HANDED_IN, again, ["Place"], empty="Nothing is handed in then."),
               sorted_table("Waiting then", WAITING, waits, ["Record"], name="waits-", empty="Nothing waits then."),
               totals_of(sums_told(settled.report), sums_of(settled.day.book_rows))],
-        action="/undo/yes", button=f"Yes, undo {said}", no="/days", choices=[last.date, *reversed(earlier)],
+        action="/undo/yes", button=f"Yes, undo {said}", no="/days", shown=comes,
+        choices=[last.date, *reversed(earlier)],
         fields=[("day", last.date), *([("date", date)] if date != last.date else [])], chosen=("date", date),
         words="For which day it is handed in again: an earlier one, if it was closed for a date that is too late",
     )  # fmt: skip

@@ -52,7 +52,7 @@ WORKBOOK = "application/vnd.openxmlformats-officedocument.spreadsheetml.sheet"
 BEHIND = dict.fromkeys(("hand-in", "change", "take-back"), ("/next", "To the next day"))
 BEHIND["label"] = ("/names", "To the names")
 # What the dates of an address are called.
-NAMES_OF_DATES = {"from": "the first day", "to": "the last day", "deadline": "the deadline"}
+NAMES_OF_DATES = {"from": "From the day", "to": "Up to the day", "deadline": "Deadline"}
 # What files tell of an account.
 OF_ACCOUNTS = tables.columns("#account kind #holder status #general #aviation")
 # What files tell of events, of settled days, and of what came of each.
@@ -147,9 +147,9 @@ def compliance(served: Served) -> Any:
     if settled is None:
         return gate.said(400, gate.NO_DAY)
     year, word = number_asked("year") or answers.last_year_over(settled.head), asked("deadline")
-    office, standings = own.office(), answers.standings(settled.day, settled.report, year)
-    deadline = date_of("the deadline", word) if word else office.settings.due.surrender_of(year)
-    rows = own.once(("standings", year), own.state_of_days(), lambda: sorted(standings, key=standing.order))
+    office = own.office()
+    deadline = date_of(NAMES_OF_DATES["deadline"], word) if word else office.settings.due.surrender_of(year)
+    rows = own.standings(year)
     return show_page(
         "compliance", f"Compliance for {year}", year=year, rows=[*map(row_of_standing, rows)], columns=COLUMNS,
         counts=standing.counts_table(rows) if rows else "", until=until_in_words(settled.head.date, deadline),
@@ -218,7 +218,7 @@ def wanted(names: Labels) -> Find:
 
 def number_or_name(word: str, names: Labels, kind: str = ACCOUNT) -> int | None:
     """The number that a word of the address says, or that of what it names; None, if it is not there."""
-    return number_said(word, asked(word), names, kind) if asked(word) else None
+    return number_said(word.capitalize(), asked(word), names, kind) if asked(word) else None
 
 
 def find(served: Served) -> Any:
@@ -357,8 +357,11 @@ def job(served: Served, number: str) -> Any:
         leads = (f"/days/{date}", "To the day")
     if there.status in (0, FOUND) and there.made():
         leads = (f"/jobs/{number}/packages.zip", "Download the packages")
+    asked_for = served.jobs.asked_for("/hand-in", there.back.rpartition("/")[2].partition("?")[0])
+    act = asked_for.first().get("act", "") if asked_for and there.status in (0, FOUND) else ""
+    ended = "at work" if there.status is None else "nothing was done" if there.is_fault() else "done"
     return show_page(
-        "job", voice.page_of(there.command), job=there, status=there.status, leads=leads,
+        "job", f"{voice.page_of(there.command)}: {ended}", job=there, act=act, status=there.status, leads=leads,
         has_changed=bool(there.seen) and there.seen != flask.g.state, refresh=2 if there.status is None else None,
     )  # fmt: skip
 

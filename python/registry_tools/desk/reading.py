@@ -20,15 +20,17 @@ from registry_tools.layout import SETTINGS
 from registry_tools.office import approvals, close, composing, folder, handed, trial
 from registry_tools.office.composing import NextDay
 from registry_tools.office.handed import HandedIn
-from registry_tools.office.office import Office
+from registry_tools.office.office import Office, sum_of_outcome
 from registry_tools.office.waits import waiting_behind
-from registry_tools.pages import indexed, month, send
+from registry_tools.pages import compliance as standing, indexed, month, send
 from registry_tools.pages.account import own_parts
 from registry_tools.pages.html import Frame, Markup, joined, link
 from registry_tools.pages.month import Month
 from registry_tools.pages.rulebook import Rulebook, link_to_check
 from registry_tools.pages.settled import REFUSED, WAITS, ByHand, Settled, by_hand_before, told_by
 from registry_tools.pages.statement import Statement
+from registry_tools.pairs import compliance
+from registry_tools.pairs.compliance import Standing
 from registry_tools.questions import days, month as months
 from registry_tools.questions.days import Days
 from registry_tools.store import file, past
@@ -210,6 +212,17 @@ class Reading:
 
         return self.once(("by hand", date), filed[-1].line, work)
 
+    def standings(self, year: int) -> list[Standing]:
+        """How operators stand for a year, after the last day, those first that lack something. There has to be one."""
+        own = self.settled()
+        assert own is not None
+        told = compliance.standings(own.day, own.report, year)
+        return self.once(("standings", year), self.state_of_days(), lambda: sorted(told, key=standing.order))
+
+    def held_over(self, count: int) -> list[tuple[datetime.date, dict[str, int]]]:
+        """What all accounts held after each of so many last days."""
+        return self.once("held", self.state_of_days(), lambda: self.of_days(lambda own: months.held_over(own, count)))
+
     def account(self, number: int) -> Markup | None:
         """All that stands on the page of an account; None, if there is no such account."""
         settled = self.settled()
@@ -274,13 +287,16 @@ class Reading:
         trial.mark_new(self.office(), looked)
         return next_day, looked, otherwise
 
-    def closing(self, word: str | None) -> tuple[close.Outcome, list[str]]:
-        """What would come of it if the next day was closed now, by the second answer, and what is left for later."""
+    def closing(self, word: str | None) -> tuple[tuple[close.Outcome, str], list[str]]:
+        """What would come of it if the next day was closed now, by the second answer, with the sum of that, and what is
+        left for later."""
         office, next_day = self.office(), self.next_day(word)
-        outcome = self.of_next(
-            "closing", next_day.date, lambda: close.outcome_of_day(close.settle(office, next_day, by_second=True))
-        )
-        return outcome, close.left_for_later(self.handed_in(), next_day.date)
+
+        def work() -> tuple[close.Outcome, str]:
+            settled = close.settle(office, next_day, by_second=True)
+            return close.outcome_of_day(settled), sum_of_outcome([next_day.sum()])
+
+        return self.of_next("closing", next_day.date, work), close.left_for_later(self.handed_in(), next_day.date)
 
 
 def read_settled(office: Office, event: Event, names: Labels) -> DeskSettled:

@@ -1,6 +1,5 @@
 """How a page is shown, and what of its address is asked for. Tables go on in pages and are sorted by their columns.
-Page and order stand in the address, so that a link shows the same to a colleague. The answer to a form has no such
-address: its tables have their first rows, and no links."""
+Page and order stand in the address, so that a link shows the same to a colleague."""
 import re
 import urllib.parse
 from collections.abc import Callable, Collection, Iterable, Sequence
@@ -11,10 +10,11 @@ from werkzeug.wrappers import Response
 
 from registry_tools import voice
 from registry_tools.desk import words
+from registry_tools.desk.jobs import KEY
 from registry_tools.errors import WordsFault
 from registry_tools.office import trial
 from registry_tools.pages.beside import item_in_words
-from registry_tools.pages.html import Markup, Table, joined, link, paragraph, sort_key, tag
+from registry_tools.pages.html import Markup, Table, joined, link, markup, paragraph, sort_key, tag
 from registry_tools.questions import taken
 
 # The word of an address that only fills the form of a page with what was typed.
@@ -22,6 +22,10 @@ TYPED = "typed"
 NUMBER = re.compile("[1-9][0-9]{0,8}", re.ASCII)
 # What is expected of a number.
 EXPECTED = {"account": "the number of an account", "year": "a year, as 2024"}
+# The words of a form that its page makes; those of a look; and so much of a field is kept in the way back.
+OF_PAGE, OF_LOOKS, LONGEST_FIELD = {"token", "once", "state", "shown"}, {"look", "again"}, 200
+# Where a command is asked for once more, and by which word of its page, if it cannot be approved any more.
+ASKED_AGAIN = {"close": "date", "undo": "day", "release": "day"}
 # How many rows of a table a page shows, and how many pages are named beside it.
 ROWS, NEAR = 100, 4
 
@@ -45,7 +49,7 @@ def number_asked(name: str) -> int | None:
     """The number that a word of the address says, if it is there. Raises WordsFault if it is none."""
     word = asked(name)
     if word and not NUMBER.fullmatch(word):
-        raise WordsFault(f"{name}: found {word!r}; expected {EXPECTED[name]}")
+        raise WordsFault(f"{name.capitalize()}: found {word!r}; expected {EXPECTED[name]}")
     return int(word) if word else None
 
 
@@ -61,9 +65,28 @@ def address_of(path: str, args: dict[str, object]) -> str:
     return urllib.parse.quote(path) + (f"?{query}" if query else "")
 
 
+def form(name: str) -> str:
+    """What a field of the form has, without blanks around it."""
+    return flask.request.form.get(name, "").strip()
+
+
+def back_of_form() -> str:
+    """The address of the form that was sent, with what was typed; of a yes, that of the look that it was said to."""
+    page = "/" + flask.request.path.split("/")[1]
+    if KEY.fullmatch(form("look")):
+        return f"{page}/look/{form('look')}"
+    if page == "/approve" and form("command") in ASKED_AGAIN:
+        # (what is not so any more is asked for once more)
+        return address_of(f"/{form('command')}", {ASKED_AGAIN[form("command")]: form("day")})
+    said = flask.request.form.to_dict(flat=False)
+    typed = {name: own for name, own in said.items() if name not in OF_PAGE | OF_LOOKS and any(own)}
+    own = {name: [word[:LONGEST_FIELD] for word in words] for name, words in typed.items()}
+    return address_of(page, {**own})
+
+
 def outcome(own: trial.Looked) -> object:
-    """The outcome of an instruction; strong, if it is refused."""
-    return tag("strong", own.said()) if own.is_refused else own.said()
+    """The outcome of an instruction; strong, if it is refused, and with what was found."""
+    return Markup(f"{tag('strong', own.said())} {markup(own.why)}") if own.is_refused else own.said()
 
 
 def row_of_taken(own: taken.TakenBack) -> tuple[object, ...]:
@@ -85,7 +108,7 @@ def sorted_table(
     Where a page has several, each but the first has a name, which begins its words of the address."""
     if not rows:
         return paragraph(empty) if empty else joined()
-    sort, page, has_links = f"{name}sort", f"{name}page", flask.request.method != "POST"
+    sort, page = f"{name}sort", f"{name}page"
     word = flask.request.args.get(sort, "")
     by = word.removeprefix("-")
     if by in columns:
@@ -95,10 +118,10 @@ def sorted_table(
     number = min(max(flask.request.args.get(page, 1, type=int), 1), last)
     part = [["" if cell is None else cell for cell in show(row)] for row in rows[(number - 1) * ROWS : number * ROWS]]
     ways = {own: address(**{sort: f"-{own}" if word == own else own, page: None}) for own in columns}
-    heads = [link(ways[own], own) if own else own for own in columns] if has_links and len(rows) > 1 else None
-    counted = f"{caption} ({'' if has_links else f'the first {ROWS} of '}{len(rows):,})" if last > 1 else caption
+    heads = [link(ways[own], own) if own else own for own in columns] if len(rows) > 1 else None
+    counted = f"{caption} ({len(rows):,})" if last > 1 else caption
     own = Table(columns, right, heads=heads).of(counted, part)
-    return joined(own, pages_of(page, number, last)) if has_links and last > 1 else own
+    return joined(own, pages_of(page, number, last)) if last > 1 else own
 
 
 def pages_of(page: str, number: int, last: int) -> Markup:

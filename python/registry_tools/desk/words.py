@@ -1,4 +1,5 @@
 """How the desk says things to people: fields, lags, and what nobody sees."""
+import datetime
 import re
 
 from registry_tools.errors import escaped
@@ -22,6 +23,12 @@ LAGS = {
 UNSEEN = re.compile(
     "[\0-\x08\x0b\x0c\x0e-\x1f\x7f-\x9f\u061c\u200b-\u200f\u2028-\u202e\u2060-\u2069\ufeff\ud800-\udfff]"
 )
+
+
+def zone() -> str:
+    """The zone of all times, with how far it is from UTC now."""
+    now = datetime.datetime.now().astimezone()
+    return f"{now:%Z} (UTC{now:%z})" if f"{now:%Z}" != "UTC" else "UTC"
 
 
 def label(name: str) -> str:

@@ -9,10 +9,9 @@ from registry_tools.errors import WordsFault
 from registry_tools.office import approvals, change, composing, handed, people
 from registry_tools.office.approvals import COMMAND_OF, Asked
 from registry_tools.office.handed import HandedIn, Part
-from registry_tools.office.office import By, Office
+from registry_tools.office.office import By, Office, sum_of_outcome
 from registry_tools.office.people import MAY_WAIT
 from registry_tools.store.events import APPROVED
-from registry_tools.store.texts import sum_of
 
 OF_DATES = tuple(name for name in MAY_WAIT if name not in COMMAND_OF.values())
 
@@ -27,26 +26,6 @@ class ApprovedPart:
     name: str
     rows: list[str]
     becomes: list[str]
-
-
-@dataclass(frozen=True)
-class WaitingPart:
-    """Something that was handed in and waits: its place, what it was called, its rows, and what it would become."""
-
-    place: int
-    name: str
-    rows: list[str]
-
-
-def waiting(office: Office) -> tuple[list[str], list[WaitingPart]]:
-    """What waits for whom, in words, and what of it was handed in, with its rows."""
-    handed_in = approvals.handed_in_of(office)
-    told = [own.line for own in approvals.all_waiting(office, handed_in)]
-    parts = []
-    for part in handed_in.waiting:
-        rows = rows_left(handed_in, part) + change.look_at_waiting(office, handed_in, part)
-        parts.append(WaitingPart(part.start, part.name, rows))
-    return told, parts
 
 
 def rows_left(handed_in: HandedIn, part: Part) -> list[str]:
@@ -70,6 +49,7 @@ def approve_places(office: Office, by: By, places: tuple[str, ...]) -> list[Appr
             office.add(APPROVED, of=part.event.id, sum=sum_asked, name=where)
             by_whom = approvals.who_did(office, part.who, part.login)
             done.append(ApprovedPart(where, by_whom, part.name, rows_left(handed_in, part), becomes))
+        office.must_be_as_shown(by, [sum_of_outcome([*own.rows, *own.becomes]) for own in done])
     return done
 
 
@@ -138,6 +118,6 @@ def must_be_same(office: Office, asked: Asked) -> None:
     if asked.command != "close":
         return
     composed = composing.compose(office, approvals.handed_in_of(office).until(asked.date), asked.date)
-    if sum_of(composed.text + composed.waiting_text()) != asked.result:
+    if composed.sum() != asked.result:
         way = f"{voice.command('close')} asks once more"
         raise WordsFault(f"what closing {asked.date} gives has changed since it was asked for", way)

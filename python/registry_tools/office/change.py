@@ -50,6 +50,7 @@ def change_by_hand(office: Office, by: By, asked: Change) -> Changed:
     have it, or if it changes nothing."""
     with office.changing("change", by) if asked.yes else office.trying("change", by):
         came = changed(office, asked)
+        office.must_be_as_shown(by, came.rows)
     return came if asked.yes else replace(came, part=None, waits=[])
 
 

@@ -26,7 +26,6 @@ from registry_tools.second import rules
 from registry_tools.store import daybook
 from registry_tools.store.events import FILED, Event
 from registry_tools.store.past import PastDay
-from registry_tools.store.texts import sum_of
 from registry_tools.texts.books import Sums, sums_of, sums_told
 from registry_tools.texts.day_text import DayText
 from registry_tools.texts.follows import differences_of_totals, must_follow
@@ -94,7 +93,8 @@ def close(office: Office, by: By, asked: Close) -> Closed | Doubts | AskedFor:
             composed = composing.compose(office, handed_in.until(asked.date), asked.date)
         if not asked.yes and any(note.startswith(LOOK) for note in (*composed.notes, *left)):
             return Doubts(asked.date, [*worth_telling(composed.notes), *left])
-        words, result = "--second" if asked.by_second else "", sum_of(composed.text + composed.waiting_text())
+        words, result = "--second" if asked.by_second else "", composed.sum()
+        office.must_be_as_shown(by, [result])
         # (whoever only asks for it is told, too)
         early = settle(office, composed, asked.by_second, asked.verifies) if CLOSES.search(composed.text) else None
         if early and not asked.yes and (doubts := [*closed_with_more(early)]):

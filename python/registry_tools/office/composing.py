@@ -17,6 +17,7 @@ from registry_tools.office.office import Office
 from registry_tools.second import faults, rules
 from registry_tools.store import past
 from registry_tools.store.events import Event
+from registry_tools.store.texts import sum_of
 from registry_tools.texts import pending
 from registry_tools.texts.accounts import Accounts, Reader
 from registry_tools.texts.day_text import DayText, day_of
@@ -59,6 +60,10 @@ class NextDay:
     def pending_file(self) -> pending.PendingFile:
         """The same as if it had been read."""
         return pending.PendingFile(NEXT_DAY, self.made, [(own, line) for line, own in enumerate(self.waiting, 2)])
+
+    def sum(self) -> str:
+        """The sum of all that it is made of: what comes of it is the same as long as this is."""
+        return sum_of(self.text + self.waiting_text())
 
     def day(self, path: str = NEXT_DAY) -> DayText:
         """The text, read again with all checks. A fault names the path."""

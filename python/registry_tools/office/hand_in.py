@@ -34,19 +34,27 @@ class Added:
     looked: list[trial.Looked]
     # What the folder has had before, and may come again.
     again: list[str]
-    # What of it waits for another login, in words.
+    # What of it waits for another login, and that a spreadsheet hides some of it, in words.
     waits: list[str]
+    hidden: list[str]
 
     def places(self) -> set[int]:
         """The places of all that was added."""
         return {place for part in self.parts for place in range(part.start, part.end)}
+
+    def outcome(self) -> list[str]:
+        """What would come of it, in lines, whatever else is handed in."""
+        there = self.places()
+        return [*self.again, *(f"{own.said()} {own.do_row}" for own in self.looked if own.place in there)]
 
 
 def hand_in(office: Office, by: By, asked: HandIn) -> Added:
     """Hands files in, and tries the next day with them. Raises FileFault at a fault of a file, or of the next day as a
     whole, and WordsFault or RightsFault if it may not be so: then nothing is handed in."""
     with office.changing("hand-in", by):
-        return added(office, asked)
+        own = added(office, asked)
+        office.must_be_as_shown(by, own.outcome())
+        return own
 
 
 def look_at(office: Office, by: By, asked: HandIn) -> Added:
@@ -63,7 +71,7 @@ def added(office: Office, asked: HandIn) -> Added:
     date = composing.settlement_date(office, handed_in)
     next_day = composing.compose(office, handed_in.until(date), date)
     looked = trial.look(next_day, next_day.day(), office.names())
-    return Added(parts, next_day, looked, here.told, approvals.told_of_new(office, parts))
+    return Added(parts, next_day, looked, here.told, approvals.told_of_new(office, parts), here.hidden)
 
 
 def meant_again(paths: list[str], words: Sequence[str]) -> tuple[set[tuple[str, int]], set[int]]:
@@ -89,8 +97,9 @@ class Here:
     lines: set[tuple[str, int]] = field(default_factory=set)
     numbers: set[int] = field(default_factory=set)
     named: list[tuple[Part, str]] = field(default_factory=list)
-    # What is told of what comes again.
+    # What is told of what comes again, and of what a spreadsheet hides.
     told: list[str] = field(default_factory=list)
+    hidden: list[str] = field(default_factory=list)
 
     def named_as(self, part: Part) -> str:
         """The file of this command that a part is, in words; nothing, if it was handed in before."""
@@ -135,6 +144,7 @@ def add(office: Office, here: Here, own: Incoming) -> Part:
         refuse_blocks(office, here, own)
     part = handed.put(office, here.handed_in, own.kind, own.content, own.count, own.given.name, own.originals)
     here.named.append((part, own.path))
+    here.hidden += own.hidden
     return part
 
 

@@ -55,7 +55,7 @@ class Forms:
 @dataclass(frozen=True)
 class Incoming:
     """A file that is handed in: what it has, its rows with the lines or the rows of the table where they stand, how
-    many things it has, the content that is kept, and what it was made of."""
+    many things it has, the content that is kept, what it was made of, and that some of that is hidden."""
 
     given: Given
     kind: str
@@ -63,6 +63,7 @@ class Incoming:
     count: int
     content: bytes
     originals: Sequence[Original] = ()
+    hidden: Sequence[str] = ()
 
     @property
     def path(self) -> str:
@@ -129,7 +130,7 @@ def read_table(own: Given, content: bytes, forms: Forms) -> Incoming:
         mapping = Given(forms.mapping.path)
         originals.append(Original(MAPPING, ".ini", packed_bytes_of(mapping.path), mapping.name))
     checked_count(Rows(path, [*rows.rows], rows.lines), kind)
-    return Incoming(own, kind, rows, len(made.made), text_of_rows(made.rows), originals)
+    return Incoming(own, kind, rows, len(made.made), text_of_rows(made.rows), originals, made.hidden)
 
 
 def is_table(content: bytes) -> bool:

@@ -2,6 +2,7 @@
 from collections.abc import Iterator
 from dataclasses import dataclass
 
+from registry_tools import voice
 from registry_tools.errors import FileFault, WordsFault, shown
 from registry_tools.notes import LOOK
 from registry_tools.office import approvals, composing
@@ -35,6 +36,7 @@ def keep_names(office: Office, by: By, asked: list[Label], why: str) -> Named:
     with office.changing("label", by):
         before, at = office.names(), now()
         new = [own._replace(at=at, who=office.who, why=why) for own in new_of(asked, before)]
+        office.must_be_as_shown(by, named_so(new, before))
         rows = "".join(f"{own.row()}\n" for own in new).encode("utf-8", "surrogateescape")
         # (ends the command if the names could not be read again)
         list(labels.rows_in(rows_of_text(office.store.path, rows.decode("utf-8", "surrogateescape"))))
@@ -46,6 +48,11 @@ def keep_names(office: Office, by: By, asked: list[Label], why: str) -> Named:
         return Named(new, before, [*doubts_of(office, new, before)])
 
 
+def named_so(new: list[Label], before: Labels) -> list[str]:
+    """What would be named how, and was before, in lines."""
+    return [f"{own} {before.name_of(own.kind, own.number)}" for own in new]
+
+
 # What is asked for.
 
 
@@ -54,7 +61,8 @@ def one_name(kind: str, number: str, name: str, is_gone: bool = False) -> Label:
     own = Label(kind, number, labels.tidy(name))
     found, expected = wrong_part(own, is_gone)
     if expected:
-        raise WordsFault(f"found {shown(found)}; expected {expected}")
+        where = voice.either("", "Its number: " if found == own.number else "Its name: ")
+        raise WordsFault(f"{where}found {shown(found)}; expected {expected}")
     return own
 
 

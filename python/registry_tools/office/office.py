@@ -1,13 +1,13 @@
 """An open folder of days: its settings, its file, and who works with it."""
 import contextlib
 import re
-from collections.abc import Iterator
+from collections.abc import Iterable, Iterator
 from dataclasses import dataclass
 from pathlib import Path
 from typing import Any
 
 from registry_tools.elsewhere import bounds
-from registry_tools.errors import LateFault, RightsFault, WordsFault, shown
+from registry_tools.errors import Fault, LateFault, RightsFault, WordsFault, shown
 from registry_tools.office import people
 from registry_tools.office.people import People
 from registry_tools.office.settings import Settings
@@ -15,6 +15,7 @@ from registry_tools.store.events import (
     APPROVED, ASKED, HANDED, LABELLED, OF_DAYS, TAKEN, Event, Events,
 )  # fmt: skip
 from registry_tools.store.file import Store
+from registry_tools.store.texts import sum_of
 from registry_tools.texts import labels
 from registry_tools.texts.labels import Labels
 from registry_tools.texts.rows import rows_of_text
@@ -28,12 +29,13 @@ STATE = re.compile("[0-9a-f]{64}")
 
 @dataclass(frozen=True)
 class By:
-    """By whom something is done: the login of the process, the name that was given, and the state of the folder that
-    somebody has seen before, if that is asked."""
+    """By whom something is done: the login of the process, the name that was given, and, if that is asked, the state of
+    the folder that somebody has seen before, and the sum of what would have come of it then: that counts alone."""
 
     login: str
     who: str
     seen: str | None = None
+    shown: str | None = None
 
 
 def by_of(known: People, who: str, whom: str | None = None, seen: str | None = None) -> By:
@@ -49,9 +51,10 @@ class Office:
     path: Path
     settings: Settings
     store: Store
-    # The login that changes it, and the name that was given.
+    # The login that changes it, and the name that was given; and what is told if that came late.
     login: str = ""
     who: str = ""
+    late: str = CAME_LATE
 
     @property
     def events(self) -> Events:
@@ -92,7 +95,11 @@ class Office:
         another state than it is in now, or if office.ini does not allow the command to this login."""
         with self.store.change():
             self.let_in(command, by)
-            yield
+            try:
+                yield
+            except Fault as fault:
+                # (what others did in between may be why)
+                raise fault if self.late in (CAME_LATE, str(fault)) else LateFault(f"{self.late}; {fault}") from None
 
     @contextlib.contextmanager
     def trying(self, command: str, by: By) -> Iterator[None]:
@@ -108,7 +115,14 @@ class Office:
         self.login, self.who = by.login, by.who
         people.must_be_allowed(self.people, self.login, command)
         if by.seen is not None and by.seen != self.state():
-            raise LateFault(f"{CAME_LATE}: {'; '.join(self.done_since(by.seen))}")
+            self.late = f"{CAME_LATE}: {'; '.join(self.done_since(by.seen))}"
+            if by.shown is None or by.seen not in (event.line for event in self.events.all):
+                raise LateFault(self.late)
+
+    def must_be_as_shown(self, by: By, outcome: Iterable[str]) -> None:
+        """Ends the command, in its change, if something else comes of it than was shown to who looked before."""
+        if by.shown not in (None, sum_of_outcome(outcome)):
+            raise LateFault(self.late)
 
     def state(self) -> str:
         """What a change builds on: after each change it is another one."""
@@ -124,6 +138,11 @@ class Office:
         for event in self.events.all[lines.index(state) + 1 :] if state in lines else ():
             if event.of is None or event.what != HANDED:
                 yield from told_of(event)
+
+
+def sum_of_outcome(outcome: Iterable[str]) -> str:
+    """The sum of what comes of something, in lines."""
+    return sum_of("\n".join(outcome).encode("utf-8", "surrogateescape"))
 
 
 def told_of(event: Event) -> Iterator[str]:

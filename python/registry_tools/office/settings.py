@@ -20,7 +20,7 @@ HOOKS, AFTER_CLOSE = "hooks", "after_close"
 # What office.ini has: another section would be one that nobody reads.
 SECTIONS = (SECTION, deadlines.SECTION, ANCHOR, people.SECTION, people.FOUR_EYES, HOOKS, sender.SECTION)
 # What it names under [office].
-NAMES = ("layout", "program", "statements", "pages", "verify", "desk")
+NAMES = ("layout", "program", "statements", "pages", "verify", "desk", "name")
 
 
 @dataclass(frozen=True)
@@ -41,6 +41,8 @@ class Settings:
     people: People = People()
     # The socket of its desk, for whoever may not write the folder.
     desk: str = ""
+    # What the office is called, if it is told.
+    name: str = ""
     # The program that is run behind `close`; empty: none.
     after_close: str = ""
     # Whom letters come from.
@@ -86,8 +88,8 @@ def read(path: Path) -> Settings:
     hooks = dict(parser[HOOKS]) if HOOKS in parser else {}
     must_be_known(path, f"[{HOOKS}]", hooks, (AFTER_CLOSE,))
     makes, behind = (makes_statements, makes_pages, verifies), hooks.get(AFTER_CLOSE, "")
-    program, desk = (section.get(name, "") for name in ("program", "desk"))
-    return Settings(program, *makes, due, key, named, desk, behind, sender.read(path, parser))
+    program, desk, called = (section.get(name, "") for name in ("program", "desk", "name"))
+    return Settings(program, *makes, due, key, named, desk, called, behind, sender.read(path, parser))
 
 
 def key_of(path: Path, parser: configparser.ConfigParser) -> Path | None:

@@ -17,7 +17,6 @@ from registry_tools.second import rules
 from registry_tools.texts import checks, in_words
 from registry_tools.texts.day_text import DayText
 
-COLUMNS = ("", "place", "instruction", "outcome")
 WAITED = "waited"
 # How many rows are shown that the library answers otherwise.
 MOST_SHOWN = 3
@@ -36,6 +35,8 @@ class Looked:
     due: str
     # Its log row.
     log_row: str
+    # What was found, if it is refused.
+    why: str = ""
     is_new: bool = False
 
     @property
@@ -84,10 +85,11 @@ def look(next_day: NextDay, day: DayText, names: Labels = Labels()) -> list[Look
     """What would come of each instruction, in words with the names of accounts."""
     places = [*(None for _ in next_day.entered), *(item.place for item in next_day.new)]
     looked = []
-    for place, instruction, logged in zip(places, day.instructions, rules.settle(day.day())):
+    for place, instruction, logged in zip(places, day.instructions, rules.settle(day.day(), tells=True)):
         own, said = instruction.row, in_words.instruction_in_words(instruction, names.account)
         outcome = outcome_by_rules(logged, instruction)
-        looked.append(Looked(place, own, said, outcome, str(logged.due or ""), logged.line))
+        why = logged.passing.found if logged.passing and outcome != NOT_DUE else ""
+        looked.append(Looked(place, own, said, outcome, str(logged.due or ""), logged.line, why))
     return looked
 
 
@@ -95,15 +97,6 @@ def outcome_by_rules(logged: rules.Logged, i: rules.Instruction) -> str:
     """`done`, or the name of the check."""
     behind = logged.line.split(",")[3 + len(i.fields) :]
     return "done" if behind[0] == "done" else behind[2]
-
-
-def table_of(looked: list[Looked]) -> list[str]:
-    """The lines of a table of instructions."""
-    rows = [
-        ["*" if tried.is_new else "", WAITED if tried.place is None else str(tried.place), tried.words, tried.said()]
-        for tried in looked
-    ]
-    return in_words.table_lines([*COLUMNS], rows, {"place"})
 
 
 def counts_of(looked: list[Looked]) -> str:

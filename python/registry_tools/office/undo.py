@@ -9,6 +9,7 @@ from registry_tools.office import approvals, handed, trial
 from registry_tools.office.approvals import AskedFor
 from registry_tools.office.handed import HandedIn
 from registry_tools.office.office import By, Office
+from registry_tools.office.waits import waits_of
 from registry_tools.store import daybook
 from registry_tools.store.events import UNDONE, Event
 
@@ -41,7 +42,15 @@ def undo(office: Office, by: By, asked: Undo) -> Undone | AskedFor:
         approved = approvals.let_through(office, "undo", last.date, words, last.line)
         if isinstance(approved, AskedFor):
             return approved
-        return Undone(last.date, again, taken_back(office, last, again, asked.why, approved))
+        end = taken_back(office, last, again, asked.why, approved)
+        office.must_be_as_shown(by, comes_again(office))
+        return Undone(last.date, again, end)
+
+
+def comes_again(office: Office) -> list[str]:
+    """What is handed in and waits, in lines, behind a day that was taken back."""
+    items = approvals.handed_in_of(office).items(*handed.KINDS)
+    return [*(row for item in items for row in item.rows), *(own.instruction.row for own in waits_of(office))]
 
 
 def last_of(office: Office, named: datetime.date | None) -> Event:

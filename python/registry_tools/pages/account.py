@@ -3,6 +3,7 @@ from typing import Iterator, Sequence
 
 from registry_tools.texts.labels import ACCOUNT
 from registry_tools.pages.compliance import amount
+from registry_tools.notes import counted
 from registry_tools.pages.html import Cells, Markup, Table, facts, heading, paragraph
 from registry_tools.pages.plan import figure
 from registry_tools.pages.settled import Settled, long_date
@@ -63,8 +64,11 @@ def history_parts(statement: Statement) -> Iterator[Markup]:
     for kind in KINDS:
         if any(held[kind] for _, held in balances):
             yield figure(f"{kind.capitalize()} allowances after each day", chart(kind, balances))
-    rows = [(date, *(grouped(held[kind]) for kind in KINDS)) for date, held in balances]
-    yield BALANCES.of("The balance after each day", rows)
+    changed = [own for own, before in zip(balances, [None, *balances]) if before is None or own[1] != before[1]]
+    rows = [(date, *(grouped(held[kind]) for kind in KINDS)) for date, held in changed]
+    yield BALANCES.of("The balance after each day that changed it", rows)
+    if len(changed) < len(balances):
+        yield paragraph(f"On {counted(len(balances) - len(changed), 'other day', 'other days')} it stayed as it was.")
 
 
 def years_of(head: rules.Day, account: rules.Account, period: tuple[int, int]) -> range:

@@ -22,6 +22,12 @@ from registry_tools.texts.report import LogRow
 
 DONE_LATER = Table(["Asked for on", "Record", "Instruction", "Why not then", "Done on", "As record"])
 NOT_DUE_YET = "It was not due yet."
+# The checks that find something of the account alone, and of no other account, user or list.
+OF_ITSELF = {
+    "SourceStatus", "OutsideCalendar", "KindNotAllowed", "ZeroAmount", "UnknownTransaction", "AlreadyReversed",
+    "WindowClosed", "NotEnough", "RetiredTooLarge", "RowsFull", "WouldBecomeNonCompliant", "YearOutsidePeriod",
+    "AmountTooLarge", "EmissionsMissing",
+}  # fmt: skip
 # What the lines of a table are, by their first fields.
 LINES = {
     "statement": "the last day, and the account with its kind, holder and status behind it",
@@ -122,9 +128,11 @@ class LetterStatement(Statement):
             self.done_later.append((row.date, row.record, what, why, date, done.record))
 
     def refusal(self, logged: LogRow) -> tuple[str, str]:
-        """What refused an instruction, and what to do."""
+        """What refused an instruction, and what to do; with what was found, if that is of this account alone."""
         book = self.settled.rulebook
-        return book.check_link(logged.code), book.words(book.checks[logged.code].advice)
+        is_own = logged.instruction.first == self.number and logged.name in OF_ITSELF
+        found = self.settled.found.get(logged.record, "") if is_own else ""
+        return book.check_link(logged.code), f"{found} {book.words(book.checks[logged.code].advice)}".lstrip()
 
 
 def tries_before(equal: list[list[LogRow]], logged: LogRow) -> list[LogRow]:

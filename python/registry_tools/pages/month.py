@@ -58,8 +58,10 @@ def totals_parts(days: list[DayOfMonth], way: Way) -> Iterator[Markup]:
         (day, (day.done, day.refused.total(), day.waiting, *(day.allowances[kind] for kind in rules.KINDS)))
         for day in days
     )
-    rows = [(way(f"/days/{day.date}", day.date), *map(grouped, own)) for day, own in numbers]
-    yield DAYS.of("Each day, and what there is after it", rows)
+    rows = [(way(f"/days/{day.date}", day.date), *map(grouped, own)) for day, own in numbers if any(own[:3])]
+    yield DAYS.of("Each day with instructions, and what there is after it", rows)
+    if len(rows) < len(days):
+        yield paragraph(f"Days without instructions: {len(days) - len(rows)}.")
 
 
 def refusal_parts(days: list[DayOfMonth]) -> Iterator[Markup]:

@@ -84,6 +84,14 @@ class Settled:
         self.has_pending = earlier is not None
         self.waiting = self.find_waiting(earlier or [])
 
+    @functools.cached_property
+    def found(self) -> dict[int, str]:
+        """What was found where an instruction of the day was refused, by its record, as the second answer says it."""
+        if all(logged.is_done for logged in self.log):
+            return {}
+        log = enumerate(rules.settle(self.day.day(), tells=True), self.head.next_record)
+        return {record: logged.passing.found for record, logged in log if logged.passing}
+
     def find_waiting(self, earlier: Iterable[Waiting]) -> list[Waiting]:
         """What waits behind the day: since earlier days, and refused as NotDue on it; those first that are due
         first."""

@@ -2,7 +2,7 @@
 receives. `./day log --help` tells the columns."""
 import datetime
 from dataclasses import dataclass
-from typing import Any, Iterator
+from typing import Any, Iterator, NamedTuple
 
 from registry_tools import tables
 from registry_tools.calendars.due_days import NOT_DUE, due_day_after, head_after
@@ -28,6 +28,13 @@ class Log:
     is_refused: bool = False
 
 
+class Known(NamedTuple):
+    """What the text of a day tells of its records: the due day of each, and what was found where one is refused."""
+
+    due: dict[int, datetime.date | None]
+    found: dict[int, str]
+
+
 # The cells of a row, in the order of the columns.
 LogCells = tuple[Any, ...]
 
@@ -38,8 +45,8 @@ def entry_in_effect(accounts: Accounts, i: rules.Instruction) -> datetime.date |
     return account.trusted.get(rules.known(i.other), "") if account else ""
 
 
-def log_rows(report: Report, due_days: dict[int, datetime.date | None]) -> Iterator[LogCells]:
-    """The rows of a report. `due_days` has the due day of each record, where it is known."""
+def log_rows(report: Report, known: Known) -> Iterator[LogCells]:
+    """The rows of a report, with what is known of its records."""
     accounts = Accounts(report.book)
     for logged in report.log:
         i = logged.instruction
@@ -48,26 +55,29 @@ def log_rows(report: Report, due_days: dict[int, datetime.date | None]) -> Itera
         else:
             outcome = ("refused", logged.code, logged.name, "")
         is_entry = i.act == "trust" and logged.is_done
-        due = entry_in_effect(accounts, i) if is_entry else due_days.get(logged.record) or ""
-        advice = "" if logged.is_done else advice_for(logged.name)
+        due = entry_in_effect(accounts, i) if is_entry else known.due.get(logged.record) or ""
+        found = known.found.get(logged.record, "")
+        advice = "" if logged.is_done else f"{found} {advice_for(logged.name)}".lstrip()
         start = (logged.record, logged.date, *i.fields[:4])
         for own in act_columns(i):
             named = (own.first, own.to, own.kind, own.amount, own.year)
             yield (*start, *named, *outcome, due, advice, own.status, own.record_named)
 
 
-def due_days_of(report: Report, days: list[DayText]) -> dict[int, datetime.date | None]:
-    """The due day of each record of a report, if its day text is among these. What waits has the one on which ./day
-    next enters it."""
+def known_of(report: Report, days: list[DayText]) -> Known:
+    """What is known of each record of a report, if its day text is among these: its due day, and what was found where
+    it is refused. What waits has the day on which ./day next enters it."""
     day = next((own for own in days if own.head.date == report_date(report)), None)
     if day is None:
-        return {}
+        return Known({}, {})
     must_follow(day, report)
-    log = progress.over(rules.settle(day.day()), "working out due days", len(day.instructions))
+    log = [*progress.over(rules.settle(day.day(), tells=True), "working out due days", len(day.instructions))]
     due = {record: logged.due for record, logged in enumerate(log, day.head.next_record)}
+    passing = ((record, logged.passing) for record, logged in enumerate(log, day.head.next_record))
+    found = {record: own.found for record, own in passing if own}
     head = head_after(day, report)
     waiting = (logged for logged in report.log if logged.name == NOT_DUE)
-    return due | {logged.record: due_day_after(head, logged.instruction) for logged in waiting}
+    return Known(due | {logged.record: due_day_after(head, logged.instruction) for logged in waiting}, found)
 
 
 def report_date(report: Report) -> datetime.date | None:
@@ -112,7 +122,7 @@ def log(reports: list[Report], days: list[DayText], asked: Log = Log()) -> list[
     for day in days:
         if day.instructions and day.head.date not in map(report_date, reports):
             raise WordsFault(f"no report is of {day.head.date}, the day of {day.path}")
-    rows = [row for report in reports for row in log_rows(report, due_days_of(report, days)) if is_wanted(row, asked)]
+    rows = [row for report in reports for row in log_rows(report, known_of(report, days)) if is_wanted(row, asked)]
     look_for_account(reports, asked.account)
     return [*map(cells_of, rows)]
 

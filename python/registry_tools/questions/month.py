@@ -16,6 +16,19 @@ COUNTED = (
 TOTALS = "SELECT date, kind, held + surrendered FROM totals WHERE date BETWEEN ? AND ?"
 
 
+HELD = "SELECT date, kind, held FROM totals WHERE date > ? ORDER BY date"
+NTH = "SELECT date FROM days ORDER BY date DESC LIMIT 1 OFFSET ?"
+
+
+def held_over(days: Days, count: int) -> list[tuple[datetime.date, dict[str, int]]]:
+    """What all accounts held, by kind, after each of so many last days."""
+    first = days.database.execute(NTH, (count,)).fetchone()
+    found: dict[datetime.date, dict[str, int]] = {}
+    for date, kind, held in days.database.execute(HELD, (first[0] if first else "",)):
+        found.setdefault(datetime.date.fromisoformat(date), {})[kind] = held
+    return [*found.items()]
+
+
 @dataclass
 class DayOfMonth:
     """How many instructions of a day were done and only wait, the checks that refused others, the allowances after it,

@@ -52,10 +52,13 @@ class Asked:
         """Whether it is a transfer to a trusted account."""
         return self.act == "transfer" and self.first.trusts(self.receivers[0], self.day.date)
 
+    def lag(self) -> int:
+        """How many working days it waits."""
+        return 0 if self.act != "transfer" else self.day.lags["trusted" if self.trusts() else "other"]
+
     def due(self) -> datetime.date | None:
         """The due day; None if the calendar does not have it."""
-        lag = 0 if self.act != "transfer" else self.day.lags["trusted" if self.trusts() else "other"]
-        return self.day.due(self.i.proposed, lag)
+        return self.day.due(self.i.proposed, self.lag())
 
     def row(self) -> Row:
         """What is to be reversed."""
@@ -190,10 +193,20 @@ def would_become_non_compliant(asked: Asked) -> bool:
     """Whether the account would no longer have surrendered enough."""
     if asked.act != "reverse" or asked.row().what != "surrender":
         return False
-    first, last = asked.day.periods[known(asked.row().period) - 1]
+    return takes_too_much(asked, asked.row())
+
+
+def takes_too_much(asked: Asked, row: Row) -> bool:
+    """Whether a surrender cannot be taken back, since the figure would fall below 0."""
+    now = figure_before(asked, row)
+    return now is not None and 0 <= now < row.amount
+
+
+def figure_before(asked: Asked, row: Row) -> int | None:
+    """The figure of the last determined year in the period of a surrender, as it is now."""
+    first, last = asked.day.periods[known(row.period) - 1]
     years = [year for year in asked.first.figures if first <= year <= last]
-    now = asked.day.figure(asked.first, max(years)) if years else None
-    return now is not None and 0 <= now < asked.row().amount
+    return asked.day.figure(asked.first, max(years)) if years else None
 
 
 def already_trusted(asked: Asked) -> bool:

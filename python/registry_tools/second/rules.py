@@ -15,6 +15,7 @@ from registry_tools.second.checks import (
     BETWEEN, BY_ADMINISTRATORS, CHECKS, LEAVES, OF_KINDS, RETIRES_AS, Asked, asked_for, name_of, not_due,
     outside_calendar, unknown_account,
 )  # fmt: skip
+from registry_tools.second.passing import Passing, passing
 from registry_tools.second.days import (
     HOLDERS, KINDS, OPERATORS, Account, Day, Instruction, Row, account_of, day_in, day_of_fields, fields_in, known,
     read_instruction,
@@ -75,24 +76,28 @@ def carry_out(day: Day, i: Instruction, record: int) -> int | None:
 
 @dataclass
 class Logged:
-    """A log row, the accounts that its instruction touched, what they held then, if it was done, and its due day, if
-    there is one."""
+    """A log row, the accounts that its instruction touched, what they held then, if it was done, its due day, if there
+    is one, and what was found, if it was refused and that is asked."""
 
     line: str
     touched: list[int]
     held: dict[int, dict[str, int]]
     due: datetime.date | None
+    passing: Passing | None = None
 
 
-def settle(day: Day) -> Iterator[Logged]:
-    """Settles the instructions one after another, and gives their log rows."""
+def settle(day: Day, tells: bool = False) -> Iterator[Logged]:
+    """Settles the instructions one after another, and gives their log rows. `tells`: also what was found where one is
+    refused, and what would pass."""
     for record, i in enumerate(day.instructions, day.next_record):
         asked = Asked(day, i)
         due = None if unknown_account(asked) else asked.due()
         place = next((place for place, check in enumerate(CHECKS) if check(asked)), None)
         start = f"log,{record},{day.date},{','.join(i.fields)}"
         if place is not None:
-            yield Logged(f"{start},refused,{place + 1},{tables.CHECKS[place].name}", touched(day, i), {}, due)
+            name = tables.CHECKS[place].name
+            found = passing(asked, name) if tells else None
+            yield Logged(f"{start},refused,{place + 1},{name}", touched(day, i), {}, due, found)
             continue
         figure = carry_out(day, i, record)
         held = {number: dict(day.accounts[number].held) for number in touched(day, i)}

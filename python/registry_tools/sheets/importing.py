@@ -36,6 +36,8 @@ class Imported:
     are_accounts: bool
     made: list[Made]
     wrong: list[FileFault]
+    # That the spreadsheet hides some of them.
+    hidden: list[str]
 
     @property
     def rows(self) -> list[str]:
@@ -179,7 +181,7 @@ def imported(sheet: Sheet, are_accounts: bool | None, dates: str | None, mapping
     if are_accounts:
         # (as a day text has them)
         right.sort(key=lambda own: int(own.rows[0].split(",")[1]))
-    return Imported(are_accounts, right, wrong)
+    return Imported(are_accounts, right, wrong, sheet.hidden_told())
 
 
 def found_in(made: Iterator[Found | FileFault]) -> Iterator[Found | FileFault]:

@@ -45,9 +45,11 @@ class Grid:
     def __init__(self, path: str) -> None:
         self.path = path
         self.rows: list[Sequence[str]] = []
+        # The places of rows that have something, and that the spreadsheet does not show.
+        self.hidden: list[int] = []
         self.cells = self.letters = 0
 
-    def add(self, cells: Sequence[str], times: int = 1) -> None:
+    def add(self, cells: Sequence[str], times: int = 1, is_hidden: bool = False) -> None:
         """Puts a row behind the others, as often as it stands there. Raises FileFault at the first limit."""
         self.cells += len(cells) * times
         self.letters += sum(map(len, cells)) * times
@@ -57,5 +59,7 @@ class Grid:
         ):  # fmt: skip
             if found > most:
                 raise too_much(self.path, what, most)
+        if is_hidden and any(cells):
+            self.hidden += range(len(self.rows), len(self.rows) + times)
         # (nobody changes a row: the same one stands there several times)
         self.rows += [cells] * times

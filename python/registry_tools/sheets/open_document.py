@@ -11,6 +11,8 @@ TABLE, OFFICE, TEXT = (SPACE.format(name=name) for name in ("table", "office", "
 ERROR = "urn:org:documentfoundation:names:experimental:calc:xmlns:calcext:1.0}value-type"
 NUMBERS = ("float", "currency", "percentage")
 SHEET, ROW, PARAGRAPH = f"{TABLE}table", f"{TABLE}table-row", f"{TEXT}p"
+# Rows that are hidden together; and how a row says that it is hidden by itself.
+GROUP, HIDDEN = f"{TABLE}table-row-group", ("collapse", "filter")
 CELLS = (f"{TABLE}table-cell", f"{TABLE}covered-table-cell")
 # What stands in the text of a cell and is no letter.
 BLANKS = {f"{TEXT}tab": "\t", f"{TEXT}line-break": "\n", f"{TEXT}s": " "}
@@ -22,7 +24,7 @@ def open_document_sheet(path: str, content: bytes) -> Sheet:
     Parts(path, content).read("content.xml", rows)
     if rows.name is None:
         raise ValueError("no sheet")
-    return Sheet(path, rows.name, rows.grid.rows)
+    return Sheet(path, rows.name, rows.grid.rows, rows.grid.hidden)
 
 
 class Rows(Elements):
@@ -36,6 +38,9 @@ class Rows(Elements):
         # million empty rows, which are one.
         self.empty_rows = self.empty_cells = self.times = 0
         self.cells: list[str] = []
+        # At which depths groups of rows are open that nobody sees, and whether the row is hidden by itself.
+        self.closed: list[int] = []
+        self.is_hidden = False
         # The attributes of the cell that is open, at which depth it is, and its letters and paragraphs so far.
         self.of: dict[str, str] = {}
         self.depth = self.letters = 0
@@ -49,8 +54,11 @@ class Rows(Elements):
             self.name = of.get(f"{TABLE}name", "")
         elif self.name is None:
             return
+        elif name == GROUP and of.get(f"{TABLE}display") == "false":
+            self.closed.append(len(self.open))
         elif name == ROW:
             self.cells, self.empty_cells, self.times = [], 0, count_in(of.get(f"{TABLE}number-rows-repeated"), 1)
+            self.is_hidden = of.get(f"{TABLE}visibility") in HIDDEN
         elif name in CELLS and self.open[-1] == ROW:
             self.of, self.depth, self.letters, self.paragraphs = of, len(self.open) + 1, 0, []
 
@@ -89,6 +97,8 @@ class Rows(Elements):
             return
         elif name == ROW:
             self.end_row()
+        elif name == GROUP and self.closed[-1:] == [len(self.open)]:
+            self.closed.pop()
         elif name == SHEET:
             raise Enough
 
@@ -110,7 +120,7 @@ class Rows(Elements):
             self.empty_rows += self.times
             return
         self.grid.add((), self.empty_rows)
-        self.grid.add(self.cells, self.times)
+        self.grid.add(self.cells, self.times, self.is_hidden or bool(self.closed))
         self.empty_rows = 0
 
 

@@ -9,6 +9,8 @@ from registry_tools.errors import FileFault, visible
 LONGEST_NAME = 80
 # A longer number is none that a spreadsheet stores.
 LONGEST_NUMBER = 400
+# So many hidden rows are told by their numbers.
+MOST_HIDDEN = 10
 
 
 class Stored(str):
@@ -17,11 +19,22 @@ class Stored(str):
 
 @dataclass
 class Sheet:
-    """A table: the path and the name of the sheet, and the rows of its cells."""
+    """A table: the path and the name of the sheet, the rows of its cells, and the places of those that a spreadsheet
+    hides."""
 
     path: str
     name: str
     rows: Sequence[Sequence[str]]
+    hidden: Sequence[int] = ()
+
+    def hidden_told(self) -> list[str]:
+        """That rows count which nobody sees in the spreadsheet; nothing, if there are none."""
+        if not self.hidden:
+            return []
+        more = len(self.hidden) - MOST_HIDDEN
+        rows = ", ".join(f"{place + 1}" for place in self.hidden[:MOST_HIDDEN])
+        return [f"{self.path}: the spreadsheet hides {len(self.hidden):,} of its rows, which count all the same: row "
+                f"{rows}{f' and {more:,} more' if more > 0 else ''}"]  # fmt: skip
 
     def fault(self, row: int, column: int, field: str, found: str, expected: str) -> FileFault:
         """What is wrong with a cell. Rows and columns count from 0."""

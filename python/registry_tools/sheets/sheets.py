@@ -16,6 +16,7 @@ from registry_tools.errors import FileFault, of_file, shown
 from registry_tools.sheets import limits, open_document, workbook
 from registry_tools.sheets.limits import Grid
 from registry_tools.sheets.sheet import Sheet
+from registry_tools.showing import as_it_was
 from registry_tools.texts.rows import packed_bytes_of
 
 # How a file begins that is packed, and how the workbooks do that are not read.
@@ -73,7 +74,7 @@ def read_csv(path: str, content: bytes) -> Sheet:
             # (all cells of a row are made before it can be looked at)
             raise limits.too_much(path, "cells", limits.MOST_CELLS)
         for cells in csv.reader(text, delimiter=separator, strict=True):
-            grid.add(cells)
+            grid.add([*map(as_it_was, cells)])
     except UnicodeDecodeError as error:
         raise not_decoded(path, content, encoding) or error from None
     except csv.Error as error:

@@ -20,7 +20,7 @@ DAY_LETTERS = re.compile("[dmy]")
 # (what is opened and never closed goes on to the end: so a format is looked through once)
 QUOTED = re.compile(r'"[^"]*(?:"|$)|\[[^]]*(?:\]|$)|\\.')
 FIRST_DAYS = {False: datetime.date(1899, 12, 30), True: datetime.date(1904, 1, 1)}
-TRUE_FALSE = {"0": "FALSE", "1": "TRUE"}
+TRUE_FALSE, TRUE = {"0": "FALSE", "1": "TRUE"}, ("1", "true")
 NAME_OF_CELL = re.compile("([A-Z]{1,3})[0-9]{1,9}", re.ASCII)
 
 
@@ -38,7 +38,7 @@ def workbook_sheet(path: str, content: bytes) -> Sheet:
     target = links.targets[book.link]
     rows = Rows(path, texts.texts, styles, FIRST_DAYS[book.begins_1904])
     parts.read(target.lstrip("/") if target.startswith("/") else f"xl/{target}", rows)
-    return Sheet(path, book.name, rows.grid.rows)
+    return Sheet(path, book.name, rows.grid.rows, rows.grid.hidden)
 
 
 class Book(Elements):
@@ -52,7 +52,7 @@ class Book(Elements):
     def begin(self, name: str, of: dict[str, str]) -> None:
         """An element begins."""
         if name == f"{MAIN}workbookPr":
-            self.begins_1904 = of.get("date1904") in ("1", "true")
+            self.begins_1904 = of.get("date1904") in TRUE
         elif name == f"{MAIN}sheet" and self.link is None and self.open[-1:] == [f"{MAIN}sheets"]:
             self.name, self.link = of.get("name", ""), of.get(RELATION, "")
 
@@ -134,6 +134,7 @@ class Rows(Elements):
         super().__init__()
         self.grid, self.texts, self.styles, self.first_day = Grid(path), texts, styles, first_day
         self.cells: list[str] = []
+        self.is_hidden = False
         # The attributes of the cell that is open, whether it has a formula, and what stands in it by its element.
         self.of: dict[str, str] = {}
         self.has_formula = False
@@ -143,7 +144,7 @@ class Rows(Elements):
         """An element begins. Raises FileFault at a limit."""
         if name == ROW:
             number = count_in(of.get("r"), len(self.grid.rows) + 1)
-            self.cells = []
+            self.cells, self.is_hidden = [], of.get("hidden") in TRUE
             self.grid.add((), max(number - 1 - len(self.grid.rows), 0))
         elif name == CELL:
             column = column_of(of["r"]) if of.get("r") else len(self.cells)
@@ -167,7 +168,7 @@ class Rows(Elements):
                 raise limits.too_much(self.grid.path, "letters of a cell", limits.MOST_LETTERS)
             self.cells.append(value)
         elif name == ROW:
-            self.grid.add(self.cells)
+            self.grid.add(self.cells, is_hidden=self.is_hidden)
 
     def value_of(self) -> str:
         """What the cell shows that has ended."""

@@ -1,0 +1,81 @@
+"""What one field finds: accounts, holders, users, names, records, amounts, and the checks that refuse."""
+from collections.abc import Iterator
+from typing import Any
+
+from registry_tools import tables
+from registry_tools.desk import questions
+from registry_tools.desk.gate import Served
+from registry_tools.desk.questions import cells_of_log, row_of_log
+from registry_tools.desk.reading import Reading
+from registry_tools.desk.shown import asked, show_page
+from registry_tools.notes import counted
+from registry_tools.pages.html import Markup, link
+from registry_tools.pages.rulebook import link_to_check
+from registry_tools.pages.settled import joined_words
+from registry_tools.questions.days import Days
+from registry_tools.questions.records import logged
+from registry_tools.texts.checks import Check, checks
+from registry_tools.texts.labels import ACCOUNT, HOLDER
+from registry_tools.texts.report import LogRow
+
+# So many names are told, and the log rows that a number or a check names.
+MOST_NAMES = 20
+OF_AMOUNT = "(i.amount = :amount OR i.record IN (SELECT record FROM shares WHERE amount = :amount))"
+# What may stand between the digits of an amount that somebody types.
+BETWEEN = str.maketrans("", "", ",.' \u00a0\u202f")
+
+
+def page(served: Served) -> Any:
+    """The page of what a word finds."""
+    own, word = served.reading, asked("q")
+    found = [*whats_of(own, word)] if word else []
+    rows = [*map(row_of_log, own.of_days(lambda there: log_rows_named(there, word)))] if word else []
+    return show_page(
+        "search", "Search", q=word, found=found, rows=rows, shown_row=lambda row: cells_of_log(own, row),
+    )  # fmt: skip
+
+
+def number_of(word: str) -> int | None:
+    """The number that somebody typed, perhaps with separators; None, if it is none that a text can have."""
+    digits = word.translate(BETWEEN)
+    return int(digits) if digits.isascii() and digits.isdigit() and len(digits) <= len(str(tables.MOST_HELD)) else None
+
+
+def checks_named(word: str) -> list[Check]:
+    """The checks whose names have the word in them, in letters of either size."""
+    return [own for own in checks().values() if len(word) > 2 and word.casefold() in own.name.casefold()]
+
+
+def whats_of(own: Reading, word: str) -> Iterator[Markup]:
+    """What has this number, or this name, each with a link."""
+    settled, number = own.settled(), number_of(word)
+    if settled is not None and number is not None:
+        there = [*questions.account_rows(settled, str(number))]
+        if number in settled.report.book:
+            yield joined_words(link(f"/accounts/{number}", f"Account {number}"))
+        held = sum(row[-1] == number for row in there)
+        if held:
+            holder = link(f"/accounts?q={number}", f"Holder {own.names().holder(number)}")
+            yield joined_words(holder, counted(held, "account", "accounts"))
+        user = own.names().user(number)
+        yield joined_words(link(f"/find?user={number}", f"What user {user} proposed and approved"))
+    labels = [it for it in own.names().named.values() if number is None and word.casefold() in it.name.casefold()]
+    ways = {ACCOUNT: "/accounts/{}", HOLDER: "/accounts?q={}"}
+    for it in labels[:MOST_NAMES]:
+        way = ways.get(it.kind, "/find?user={}").format(it.number)
+        yield joined_words(link(way, f"{it.kind.capitalize()} {own.names().words(it.kind, it.number)}"))
+    if len(labels) > MOST_NAMES:
+        yield joined_words(link("/names", f"and {len(labels) - MOST_NAMES:,} more names"))
+    for check in checks_named(word):
+        yield joined_words(link_to_check(check.code, f"Check {check.name}", "/"), check.meaning)
+
+
+def log_rows_named(there: Days, word: str) -> list[LogRow]:
+    """The log rows of a record, or of an amount, or those that a check refused."""
+    number, found = number_of(word), dict[int, LogRow]()
+    if number is not None:
+        for where in ("i.record = :amount", OF_AMOUNT):
+            found |= {row.record: row for row in logged(there, [where], {"amount": number})}
+    for check in checks_named(word):
+        found |= {row.record: row for row in logged(there, ["log.code = :code"], {"code": check.code})}
+    return [*found.values()]
