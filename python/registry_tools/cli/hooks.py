@@ -14,7 +14,7 @@ from registry_tools.notes import LOOK
 from registry_tools.office.folder import VARIABLE
 from registry_tools.office.office import Office
 from registry_tools.office.program import must_be_ours
-from registry_tools.office.settings import AFTER_CLOSE
+from registry_tools.texts.hooks import AFTER_CLOSE
 from registry_tools.store.events import Event
 
 # So many bytes of what it says are told.

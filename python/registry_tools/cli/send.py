@@ -96,7 +96,7 @@ def of_folder(said: argparse.Namespace) -> tuple[Sent, int]:
         day = office.events.day_of(wanted.end)
         assert day is not None  # (it is one of the dates)
         settings, waiting = office.settings, kept(office.store, day, "waiting")
-        wanted = replace(wanted, pending=waiting, sender=settings.sender, due=settings.due)
+        wanted = replace(wanted, pending=waiting, sender=settings.letters_from, due=settings.due)
         names = office.names() if said.labels is None else labels.read(said.labels)
         by, is_released = words.by(said, office), office.events.is_released(day)
         if not is_released and said.release:

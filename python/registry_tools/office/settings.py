@@ -5,20 +5,14 @@ from pathlib import Path
 
 from registry_tools import opening
 from registry_tools.calendars import deadlines
-from registry_tools.calendars.deadlines import DueDates
 from registry_tools.errors import FileFault, must_be_known, of_file, shown
 from registry_tools.office import people
 from registry_tools.office.people import People
-from registry_tools.texts import sender
-from registry_tools.texts.sender import Sender
+from registry_tools.texts import hooks, sender
 
-LAYOUT, SECTION = "1", "office"
-# The section that names the key by which anchors are signed.
-ANCHOR, KEY = "anchor", "key"
-# The section that names programs which are run behind commands.
-HOOKS, AFTER_CLOSE = "hooks", "after_close"
+LAYOUT, SECTION, ANCHOR, KEY = "1", "office", "anchor", "key"
 # What office.ini has: another section would be one that nobody reads.
-SECTIONS = (SECTION, deadlines.SECTION, ANCHOR, people.SECTION, people.FOUR_EYES, HOOKS, sender.SECTION)
+SECTIONS = (SECTION, deadlines.SECTION, ANCHOR, people.SECTION, people.FOUR_EYES, hooks.SECTION, sender.SECTION)
 # What it names under [office].
 NAMES = ("layout", "program", "statements", "pages", "verify", "desk", "name")
 
@@ -34,7 +28,7 @@ class Settings:
     # Whether the second answer works out all accounts of a day, and not only those that it touches.
     verifies: bool = False
     # The deadlines that the office names.
-    due: DueDates = DueDates()
+    due: deadlines.DueDates = deadlines.DueDates()
     # The key that signs anchors, if there is one.
     key: Path | None = None
     # Who may do what, and what waits for a second one.
@@ -43,10 +37,9 @@ class Settings:
     desk: str = ""
     # What the office is called, if it is told.
     name: str = ""
-    # The program that is run behind `close`; empty: none.
+    # The program that is run behind `close`, if there is one, and whom letters come from.
     after_close: str = ""
-    # Whom letters come from.
-    sender: Sender = Sender()
+    letters_from: sender.Sender = sender.Sender()
 
     def text(self) -> str:
         """The text of office.ini."""
@@ -82,14 +75,11 @@ def read(path: Path) -> Settings:
     if section.get("layout") != LAYOUT:
         raise FileFault(path, 0, "layout", shown(section.get("layout", "")), LAYOUT)
     makes_statements, makes_pages = is_yes(path, section, "statements"), is_yes(path, section, "pages")
-    due = deadlines.read(path, parser)
-    verifies = "verify" in section and is_yes(path, section, "verify")
+    due, verifies = deadlines.read(path, parser), "verify" in section and is_yes(path, section, "verify")
     key, named = key_of(path, parser), people.read(path, text)
-    hooks = dict(parser[HOOKS]) if HOOKS in parser else {}
-    must_be_known(path, f"[{HOOKS}]", hooks, (AFTER_CLOSE,))
-    makes, behind = (makes_statements, makes_pages, verifies), hooks.get(AFTER_CLOSE, "")
+    letters = hooks.program_after_close(path, parser), sender.read(path, parser)
     program, desk, called = (section.get(name, "") for name in ("program", "desk", "name"))
-    return Settings(program, *makes, due, key, named, desk, called, behind, sender.read(path, parser))
+    return Settings(program, makes_statements, makes_pages, verifies, due, key, named, desk, called, *letters)
 
 
 def key_of(path: Path, parser: configparser.ConfigParser) -> Path | None:
