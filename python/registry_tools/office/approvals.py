@@ -8,8 +8,7 @@ last event that changed it), and the result (the day's text). Of something that 
 and of the places that count. So an approval is of nothing else than what was approved; what changed has another sum.
 
 An approval counts if its login may give the command, with all that it does beside, and is another one than the login
-that does it. All are gone with the next day that is filed or undone.
-"""
+that does it. All are gone with the next day that is filed or undone."""
 import datetime
 import json
 from collections.abc import Collection, Iterator

@@ -2,8 +2,7 @@
 all days behind it. Each day is made of what was handed in for it, with who handed it in and when.
 
 A day that is closed once more has other record numbers behind what was left out. A reversal that names one of them
-would reverse something else: that is refused.
-"""
+would reverse something else: that is refused."""
 import datetime
 from dataclasses import dataclass, field
 

@@ -4,8 +4,7 @@ A `handed` event has the KIND of what was handed in: `first` instructions of the
 `changes` accounts, `edits` differences (office/changes/edits.py), whose name is the reason, `work` working days. Places
 count the things of all events from 1, also those that were taken back, so a place stays what it is. What is left when a
 day is filed or undone is handed in again behind that, with the event that handed it in first: who did it is what that
-one says. The date of such an event is that of an undone day of which it was: it comes into no earlier one.
-"""
+one says. The date of such an event is that of an undone day of which it was: it comes into no earlier one."""
 import datetime
 from collections.abc import Iterable, Iterator
 from dataclasses import dataclass, field

@@ -11,9 +11,7 @@ from registry_tools.errors import Fault, LateFault, RightsFault, WordsFault, sho
 from registry_tools.office import people
 from registry_tools.office.people import People
 from registry_tools.office.settings import Settings
-from registry_tools.store.events import (
-    APPROVED, ASKED, HANDED, LABELLED, OF_DAYS, TAKEN, Event, Events,
-)  # fmt: skip
+from registry_tools.store.events import APPROVED, ASKED, HANDED, LABELLED, OF_DAYS, TAKEN, Event, Events
 from registry_tools.store.file import Store
 from registry_tools.store.texts import sum_of
 from registry_tools.texts import labels

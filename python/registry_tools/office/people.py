@@ -9,8 +9,7 @@ do.
 
 Without [people] every login may do everything, as far as the system lets it write the folder. A login is that of the
 process: no word and no variable of a command says it. Only `proxy` may speak for others: their login is then written as
-DESK:LOGIN.
-"""
+DESK:LOGIN."""
 import configparser
 import os
 import pwd

@@ -2,8 +2,7 @@
 if nobody else could have named or changed it but them, the owner of the folder and root.
 
 Whoever may write a folder on the way may put another program there, and whoever may write FOLDER another office.ini.
-The variable REGISTRY_PROGRAMS names programs, and folders of programs, that are run all the same.
-"""
+The variable REGISTRY_PROGRAMS names programs, and folders of programs, that are run all the same."""
 import grp
 import os
 import pwd

@@ -2,8 +2,7 @@
 those of paths in memory, and `./day db` makes a file of them; all are filled by this module.
 
 The row of an account goes into its table as it is split: SQLite makes numbers of its fields, since the tables are
-strict.
-"""
+strict."""
 import datetime
 import sqlite3
 from collections.abc import Iterable, Iterator, Sequence

@@ -2,8 +2,7 @@
 kept the line of one sees later whether the folder has grown from there.
 
 The line of an event is the SHA-256 of `json_array(before, what, at, ..)`, as SQLite writes it: of all columns but `id`
-and `line`. schema.sql says what each kind of event has.
-"""
+and `line`. schema.sql says what each kind of event has."""
 import bisect
 import datetime
 import functools

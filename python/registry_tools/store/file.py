@@ -2,8 +2,7 @@
 all.
 
 FOLDER and the file belong to one login, and nobody else may write them: so whoever opens the file opens what this login
-has made. (A link on the way to FOLDER is followed: whoever names the folder chooses it.)
-"""
+has made. (A link on the way to FOLDER is followed: whoever names the folder chooses it.)"""
 import contextlib
 import fcntl
 import os
