@@ -329,7 +329,7 @@ def page_attempts(work: Path) -> Attempts:
     lines: list[tuple[str, int, str, list[str], list[object]]] = [
         ("done", 0, "done", [], ["status"]),
         ("a file that is not there", 3, "nothing", ["file"], ["hand-in", work / "none.csv"]),
-        ("cells that are wrong", 3, "nothing", ["table", "table"], ["hand-in", table]),
+        ("cells that are wrong", 3, "nothing", ["file", "file"], ["hand-in", table]),
         ("words that do not fit", 2, "nothing", ["words"], ["undo", "2025-09-21", "--why", "x"]),
         ("late", 2, "late", ["late"], ["release", "2025-09-22", "--why", "x", "--yes", "--seen", "0" * 64]),
         ("words as if it was late", 2, "nothing", ["words"], ["undo", f"{CAME_LATE}", "--why", "x"]),

@@ -276,6 +276,7 @@ def changed_by_others(base: Owned) -> Attempts:
         settings.write_text(f"{own}[hooks]\nafter_close = {program}\n")
         behind = ["office.ini: after_close: found ", has[1]]
         yield f"a program {name}, after close", not_run(base, behind, *CLOSE)
+    settings.write_text(own.replace(str(RULES), str(attempts[-1][1])))
     let = replace(base, let={"REGISTRY_PROGRAMS": "/nowhere"})
     yield "although another one is let", not_run(let, has, *CLOSE)
     settings.write_text(own.replace(str(RULES), str(planted(base, bert, rooms["sticky"] / "mine"))))

@@ -234,7 +234,7 @@ def figure_trials(work: Path) -> Iterator[Told]:
     must_do(close(TUESDAY, own))
     logged = Said("log", "--refused", "--day", TUESDAY, *own).output
     yield "log", None if f"{found} Lower the amount" in logged else logged
-    must_do(["send", str(work / "letters"), "--holder", "5501", *own])
+    must_do_either(["send", str(work / "letters"), "--holder", "5501", *own])
     letter = next((work / "letters").glob("*.html")).read_text()
     yield "the letter of its holder", None if found in letter else letter[-900:]
     must_do(["unpack", str(work / "unpacked"), *own])
