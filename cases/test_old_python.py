@@ -1,4 +1,5 @@
 """A Python that is too old is told in one line, with status 2, before anything is imported."""
+import contextlib
 import os
 import shutil
 import subprocess
@@ -16,7 +17,10 @@ PYENV = Path(os.environ.get("PYENV_ROOT", str(Path.home() / ".pyenv"))) / "versi
 
 def python_of(version: str) -> str:
     """A Python of this version; nothing, if there is none."""
-    kept = sorted(PYENV.glob(f"{version}.*/bin/python3"))
+    kept: list[Path] = []
+    # (they may lie in the home of somebody else)
+    with contextlib.suppress(PermissionError):
+        kept = [path for path in sorted(PYENV.glob(f"{version}.*/bin/python3")) if os.access(path, os.X_OK)]
     return str(kept[-1]) if kept else shutil.which(f"python{version}") or ""
 
 
