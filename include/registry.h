@@ -45,7 +45,7 @@ extern "C" {
 /* The version of this header: registry_version() of a library that fits it answers the same. */
 #define REGISTRY_VERSION 1
 /* The version of the release that it belongs to. */
-#define REGISTRY_VERSION_STRING "1.1"
+#define REGISTRY_VERSION_STRING "1.2"
 
 /* What became of a call. The numbers are the exit statuses of the program. */
 enum registry_status {
@@ -131,7 +131,7 @@ struct registry_place registry_find_fault(const char *day, size_t day_length);
 /* The words of the texts, so that no caller needs a table of its own. Each is always done, takes no memory, and writes
  * into the room as the calls above do. A number that names nothing has the empty text. */
 
-/* The version of the engine, such as 1.1, as `registry --version` tells it. */
+/* The version of the engine, such as 1.2, as `registry --version` tells it. */
 struct registry_answer registry_version_string(char *room, size_t room_length);
 
 /* The word of a cause (enum registry_cause), as the program writes it: `order`. At most 7 bytes. */

@@ -7,7 +7,7 @@ compares. A sentence may have `code` between backquotes, and links as Markdown h
 from typing import NamedTuple
 
 # The version of the program, of the library and of this package.
-VERSION = "1.1"
+VERSION = "1.2"
 
 # The limits. The most of each list, of each number, and of a day.
 MOST_INSTRUCTIONS, MOST_ACCOUNTS = 16_384, 100_000

@@ -20,7 +20,7 @@ use std::convert::AsStr;
 const SETTLE: &str = "settle";
 
 // The version of the program. No source can name its own commit: `./run --version` tells that.
-const VERSION: &str = "1.1";
+const VERSION: &str = "1.2";
 
 const WHAT_IT_DOES: &str = "\
 Settles one day of an emission allowance registry: reads a day text from standard input,

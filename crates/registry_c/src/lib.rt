@@ -44,7 +44,7 @@ pub use wanted::Wanted;
 const VERSION: u32 = 1;
 
 // The version of the engine, as its program tells it.
-const ENGINE_VERSION: &str = "1.1";
+const ENGINE_VERSION: &str = "1.2";
 
 /// Settles the day: its report, byte for byte that of the program's command `settle`.
 #[unsafe(no_mangle)]
@@ -136,10 +136,10 @@ pub extern "C" fn registry_version() -> u32
     VERSION
 }
 
-/// The version of the engine, such as `1.1`, as `registry --version` tells it.
+/// The version of the engine, such as `1.2`, as `registry --version` tells it.
 #[unsafe(no_mangle)]
 pub extern "C" fn registry_version_string(room: &mut [u8]) -> Answer
-    ensures { TellsText (codes "1.1") result room.old room.new }
+    ensures { TellsText (codes "1.2") result room.old room.new }
 {
     tell_text(ENGINE_VERSION, room)
 }

@@ -155,7 +155,7 @@ public final class Registry {
     }
 
     /**
-     * The version of the engine, such as {@code 1.1}.
+     * The version of the engine, such as {@code 1.2}.
      *
      * @return the version
      */

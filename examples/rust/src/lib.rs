@@ -191,7 +191,7 @@ pub fn find_fault(day: &[u8]) -> Result<Option<Place>, Fault> {
     native::find_fault(day)
 }
 
-/// The version of the engine, such as `1.1`.
+/// The version of the engine, such as `1.2`.
 ///
 /// ```
 /// assert!(registry::version().starts_with("1."));

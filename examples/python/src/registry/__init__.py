@@ -32,7 +32,7 @@ __all__ = [
 ]  # fmt: skip
 
 # The version of the engine that this package was made with.
-__version__ = "1.1"
+__version__ = "1.2"
 
 
 def settle(day: Text) -> Report:
