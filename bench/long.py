@@ -267,7 +267,7 @@ def seamed_wrongly(words: Words, text: bytes, seed: int) -> tuple[int, str]:
 
 def read_wrongly(refusals: Path, text: bytes) -> str:
     """What is wrong with a text that test_refusals reads by parts."""
-    calls = [f"read_day_in_lists:{parts}" for parts in [*WORKERS, EACH_ROW]]
+    calls = [f"read_day_of_pieces:{parts}" for parts in [*WORKERS, EACH_ROW]]
     lines, status = answer_of(refusals, calls, text)
     wanted = [line for call in calls for line in (call, "begin", "end", "done", "right")]
     return "" if (lines, status) == (wanted, 0) else f"status {status}, {[*set(lines) - set(wanted)]}"

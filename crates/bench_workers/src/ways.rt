@@ -8,7 +8,7 @@ use reg_regions::{
     settle_without_shifts,
 };
 use reg_tasks::Naming;
-use reg_text::{DayInput, DayParts, LEAST_PART, read_day, read_day_in_lists};
+use reg_text::{DayInput, DayParts, LEAST_PART, read_day, read_day_of_pieces};
 use reg_work::{Gate, Shift, settle_with};
 use std::alloc::Global;
 use std::sync::Wait;
@@ -29,10 +29,7 @@ pub(crate) fn read_in_lists<R: Threads + Sync>(
     text: &[u8],
     workers: u32,
 ) -> Result<DayParts, Stop> {
-    match read_day_in_lists(rt, alloc, text, workers as usize, 1) {
-        Ok(day) => Ok(day),
-        Err(_) => Err(Stop::Input),
-    }
+    read_by(rt, alloc, text, workers, 1)
 }
 
 /// The day that a text says, read by threads as the program does: with its accounts in the lists that they leave.
@@ -42,7 +39,22 @@ pub(crate) fn read_in_parts<R: Threads + Sync>(
     text: &[u8],
     workers: u32,
 ) -> Result<DayParts, Stop> {
-    match read_day_in_lists(rt, alloc, text, workers as usize, LEAST_PART) {
+    read_by(rt, alloc, text, workers, LEAST_PART)
+}
+
+// The day that a text says, as one piece, with lists of so many bytes of it or more, about.
+fn read_by<R: Threads + Sync>(
+    rt: &R,
+    alloc: Global,
+    text: &[u8],
+    workers: u32,
+    least: usize,
+) -> Result<DayParts, Stop> {
+    let mut piece = Vec::new(alloc);
+    piece.extend_from_slice(text)?;
+    let mut pieces = Vec::new(alloc);
+    pieces.push(piece)?;
+    match read_day_of_pieces(rt, alloc, &pieces, workers as usize, least) {
         Ok(day) => Ok(day),
         Err(_) => Err(Stop::Input),
     }

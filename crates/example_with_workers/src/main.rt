@@ -1,58 +1,85 @@
-//! A whole program over the crates with workers, for callers to copy: reads a day text from standard input, settles the
-//! day by four workers, who share its instructions, puts it into the book, and writes the report to standard output.
-//! How many instructions each worker ran goes to standard error: this differs from run to run, and the report does not.
-//! The exit status is 1 if anything failed.
+//! A whole program over the crates with workers, for callers to copy, as the program `registry` does it: reads a day text
+//! from standard input, settles the day on its own accounts by four workers, who own regions of them, and writes the
+//! report to standard output. How many instructions each worker carried out goes to standard error: this differs from
+//! run to run, and the report does not. The exit status is 1 if anything failed.
 #![tactic(auto)]
 
 ghost use Rattle.std.specs.Prelude.{◌≡◌, IfSome};
-ghost use Rattle.reg_text.specs.Inputs.{day_of_input};
+ghost use Rattle.reg_text.specs.Inputs.{day_of_parts};
 ghost use Rattle.reg_text.specs.NextDays.{report_of};
+ghost use Rattle.reg_text.specs.Pieces.{text_of_pieces};
 
-use reg_tasks::Naming;
-use reg_text::{DayInput, read_day, write_report};
-use reg_work::{FreeGate, Shift, settle_with};
+use reg_book::log_is_made_again;
+use reg_regions::{FreePlaces, WorkShift, settle_regions};
+use reg_text::{DayParts, LEAST_PART, read_day_of_pieces, write_report_pieces};
 use std::alloc::Global;
 use std::io::{Read, Write};
 use std::process::ExitCode;
-use std::sync::Wait;
 use std::thread::Threads;
 
-/// How many workers share the instructions: 1 to 8.
+/// How many workers settle the day: 1 to 8. As many threads read its text and write the report.
 const WORKERS: u32 = 4;
 
 /// Not all was read, settled and written.
 #[derive(Drop)]
 struct Unanswered;
 
-/// Writes how many instructions a worker ran.
-fn tell_shift<N: Naming, W: Write>(writer: &mut W, shift: &Shift<N>) -> Result<(), Unanswered> {
-    let worker = shift.worker;
-    let count = shift.ran.len();
-    writeln!(writer, "worker {worker} ran {count}").or(Err(Unanswered))
+/// Writes how many instructions each worker carried out.
+fn tell_shifts<W: Write>(writer: &mut W, shifts: &[WorkShift]) -> Result<(), Unanswered> {
+    for shift in shifts {
+        let worker = shift.worker();
+        let count = shift.places().len();
+        writeln!(writer, "worker {worker} carried out {count}").or(Err(Unanswered))?;
+    }
+    Ok(())
 }
 
-/// The report of a day that workers settle; `teller` is told how many instructions each ran. `None` if a thread could
-/// not be started, if memory ran out, or if the teller takes nothing.
-fn report_by_workers<T: Threads + Wait + Sync, W: Write>(
+/// The report of a day that workers settle, in pieces, which take the memory of `spare`; `teller` is told how many
+/// instructions each carried out. `None` if memory ran out, if the day's first record is not the book's next one, or if
+/// the teller takes nothing.
+fn report_by_workers<T: Threads + Sync, W: Write>(
     rt: &T,
     alloc: Global,
-    mut day: DayInput,
+    day: DayParts,
+    spare: Vec<Vec<u8>>,
     teller: &mut W,
-) -> Option<Vec<u8>>
-    ensures { IfSome result (λ report. report.items ≡ report_of (day_of_input day)) }
+) -> Option<Vec<Vec<u8>>>
+    ensures { IfSome result (λ pieces. text_of_pieces pieces.items ≡ report_of (day_of_parts day)) }
 {
-    let Ok((settled, shifts)) = settle_with(
-        rt, alloc, &day.book, &day.rules, &day.batch, WORKERS, &FreeGate,
+    log_is_made_again();
+    let DayParts {
+        rules,
+        parts,
+        batch,
+    } = day;
+    let Ok((closed, shifts)) = settle_regions(
+        rt,
+        alloc,
+        parts,
+        &rules,
+        &batch,
+        WORKERS,
+        &FreePlaces,
     ) else {
         return None;
     };
-    for shift in shifts.iter() {
-        tell_shift(teller, shift).ok()?;
-    }
-    let Ok(log) = day.book.commit(settled) else {
+    tell_shifts(teller, &shifts).ok()?;
+    let replies = closed.replies.as_slice();
+    let threads = WORKERS as usize;
+    let Ok(pieces) = write_report_pieces(rt, alloc, &closed.parts, &batch, replies, spare, threads)
+    else {
         return None;
     };
-    write_report(alloc, &day.book, log.as_slice()).ok()
+    Some(pieces)
+}
+
+/// The whole input, as one piece.
+fn read_input<R: Read>(alloc: Global, reader: &mut R) -> Option<Vec<Vec<u8>>> {
+    let mut text = Vec::new(alloc);
+    reader.read_to_end(&mut text).ok()?;
+    let mut pieces = Vec::new(alloc);
+    pieces.push(text).ok()?;
+    Some(pieces)
 }
 
 /// Reads the whole input, and writes the report of the day that it describes.
@@ -60,26 +87,27 @@ fn report_by_workers<T: Threads + Wait + Sync, W: Write>(
 /// # Errors
 /// [`Unanswered`] if the input can't be read or is no day text, if workers can't settle it, or if something can't be
 /// written.
-fn answer<T: Threads + Wait + Sync, R: Read, W: Write, E: Write>(
+fn answer<T: Threads + Sync, R: Read, W: Write, E: Write>(
     rt: &T,
     alloc: Global,
     reader: &mut R,
     writer: &mut W,
     teller: &mut E,
 ) -> Result<(), Unanswered> {
-    let mut text = Vec::new(alloc);
-    let Ok(_) = reader.read_to_end(&mut text) else {
+    let Some(input) = read_input(alloc, reader) else {
         return Err(Unanswered);
     };
-    let Ok(day) = read_day(alloc, text.as_slice()) else {
+    let Ok(day) = read_day_of_pieces(rt, alloc, &input, WORKERS as usize, LEAST_PART) else {
         return Err(Unanswered);
     };
-    let Some(report) = report_by_workers(rt, alloc, day, teller) else {
+    let Some(pieces) = report_by_workers(rt, alloc, day, input, teller) else {
         return Err(Unanswered);
     };
-    let Ok(()) = writer.write_all(report.as_slice()) else {
-        return Err(Unanswered);
-    };
+    for piece in pieces.iter() {
+        let Ok(()) = writer.write_all(piece.as_slice()) else {
+            return Err(Unanswered);
+        };
+    }
     writer.flush().or(Err(Unanswered))
 }
 

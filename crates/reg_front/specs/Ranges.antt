@@ -1,6 +1,6 @@
 -- Which file a source reads, and from where, as the system tells it.
-use Rattle.std.specs.Prelude.{◌≡◌, ◌≤◌, ℕ, List, [], ◌∷◌, ◌++◌, Option, IfSome, IsSome, Bool, true, false, Vec}
-use Rattle.std.specs.Prelude.{codes, drop, length, option_map}
+use Rattle.std.specs.Prelude.{◌≡◌, ◌≤◌, ◌<◌, ◌+◌, ℕ, List, [], ◌∷◌, ◌++◌, Option, Some, None, IfSome, IsSome, Bool}
+use Rattle.std.specs.Prelude.{Vec, codes, drop, false, length, option_map, slice_index_or, slice_range, true}
 use Rattle.std.specs.Global.{Global}
 use Rattle.std.specs.Str.Parse.{IsNumeral, digits_value, without_leading_plus}
 use Rattle.reg_text.specs.Pieces.{text_of_pieces}
@@ -37,3 +37,14 @@ ended_if true stream =
 abbrev pub AreAhead : Option (List ℕ) → List (Vec ℕ Global) → Type 0
 AreAhead left pieces =
     IfSome left (λ bytes. (text_of_pieces pieces ≡ bytes) × (length bytes ≤ most_input))
+
+-- these are the bytes of a file from one offset up to another, where its bytes are known, or they were not read
+abbrev pub IsRange : Option (List ℕ) → ℕ → ℕ → Option (Vec ℕ Global) → Type 0
+IsRange contents from to None = Unit {0}
+IsRange contents from to (Some piece) = (from ≤ to) × IfSome contents (λ bytes. piece.items ≡ slice_range bytes from to)
+
+-- each of these reaches from its offset up to the next one
+abbrev pub AreRanges : Option (List ℕ) → List ℕ → List (Option (Vec ℕ Global)) → Type 0
+AreRanges contents offsets read =
+    (i : ℕ) (a b : ℕ) (o : Option (Vec ℕ Global)) → i < length read
+    → IsRange contents (slice_index_or offsets i a) (slice_index_or offsets (i + 1) b) (slice_index_or read i o)

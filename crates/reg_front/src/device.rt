@@ -6,6 +6,7 @@ ghost use Rattle.std.specs.Io.KnownBytes.{Consumes, IsAtEnd, Keeps};
 ghost use Rattle.reg_front.specs.Streams.{CanFail, HasFailed, IsGood};
 ghost use Rattle.reg_front.specs.Devices.{FailsToWrite, HandsOn, IsReadWhole, Writes, most_input};
 ghost use Rattle.reg_front.specs.Faults.{IsReadFault};
+ghost use Rattle.reg_text.specs.Pieces.{text_of_pieces};
 
 use crate::stream::{CallFailed, Sink, Source};
 use reg_text::in_large_pages;
@@ -66,6 +67,31 @@ pub(crate) fn read_all<R: Source>(alloc: Global, reader: &mut R) -> Result<Vec<u
         }
     }
     unreachable!()
+}
+
+/// All bytes that the reader has left, up to its end, in pieces: those that it has read ahead, or else one.
+///
+/// # Errors
+/// As [`read_all`].
+pub(crate) fn read_pieces<R: Source>(
+    alloc: Global,
+    reader: &mut R,
+) -> Result<Vec<Vec<u8>>, ReadFault>
+    requires { CanFail (R.stream reader.old) }
+    ensures text { IfOk result
+        (λ pieces. IfSome (R.stream reader.old).bytes (λ bytes. text_of_pieces pieces.items ≡ bytes)) }
+    ensures whole { OnOk result (IsReadWhole (R.stream reader.old) (R.stream reader.new)) }
+    ensures fault { IfErr result (IsReadFault (R.stream reader.old) (R.stream reader.new)) }
+{
+    if let Some(pieces) = reader.take_pieces() {
+        return Ok(pieces);
+    }
+    let text = read_all(alloc, reader)?;
+    let mut pieces = Vec::new(alloc);
+    if pieces.push(text).is_err() {
+        return Err(ReadFault::NoMemory);
+    }
+    Ok(pieces)
 }
 
 // An empty text. It has room for the expected bytes, for one more, at which their end is found, and for an eighth more,

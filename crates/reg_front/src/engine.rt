@@ -94,8 +94,8 @@ fn run_and_keep<T: Threads + Sync, R: Source, W: Sink>(
         (W.stream writer.old) (W.stream writer.new) }
 {
     let threads = threads_of(rt, command);
-    let (day, memory) = read_input(rt, alloc, reader, threads as usize)?;
-    let used = make_text(rt, alloc, day, memory, command, threads)?;
+    let (day, input) = read_input(rt, alloc, reader, threads as usize)?;
+    let used = make_text(rt, alloc, day, input, command, threads)?;
     if write_pieces(writer, used.pieces.as_slice(), used.text.as_slice()).is_err() {
         return Err(FrontFault::WriteFailed);
     }

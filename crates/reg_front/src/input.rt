@@ -8,22 +8,21 @@ ghost use Rattle.reg_front.specs.Streams.{CanFail};
 ghost use Rattle.reg_front.specs.Devices.{IsReadWhole};
 ghost use Rattle.reg_front.specs.Runs.{IsReadingFault, Reads};
 
-use crate::device::read_all;
+use crate::device::read_pieces;
 use crate::fault::FrontFault;
-use crate::memory::Memory;
 use crate::stream::Source;
-use reg_text::{DayParts, LEAST_PART, read_day_in_lists, read_day_of_pieces};
+use reg_text::{DayParts, LEAST_PART, read_day_of_pieces};
 use std::alloc::Global;
 use std::thread::Threads;
 
-/// The day that the whole input describes, read by at most so many threads, and the bytes of the input, whose memory is
-/// used again for the output.
+/// The day that the whole input describes, read by at most so many threads, and the pieces of the input, whose memory
+/// is used again for the output.
 pub(crate) fn read_input<T: Threads + Sync, R: Source>(
     rt: &T,
     alloc: Global,
     reader: &mut R,
     threads: usize,
-) -> Result<(DayParts, Memory), FrontFault>
+) -> Result<(DayParts, Vec<Vec<u8>>), FrontFault>
     requires { CanFail (R.stream reader.old) }
     ensures ok { IfOk result
         (λ read. IfSome (R.stream reader.old).bytes (λ input. IsReading (rows_in_text input) (day_of_parts read.0))) }
@@ -32,15 +31,7 @@ pub(crate) fn read_input<T: Threads + Sync, R: Source>(
     ensures err { IfErr result (IsReadingFault (R.stream reader.old).bytes) }
     ensures read { IfErr result (λ fault. Reads fault (R.stream reader.old) (R.stream reader.new)) }
 {
-    match reader.take_pieces() {
-        Some(pieces) => {
-            let day = read_day_of_pieces(rt, alloc, pieces.as_slice())?;
-            Ok((day, Memory::Pieces(pieces)))
-        }
-        None => {
-            let input = read_all(alloc, reader)?;
-            let day = read_day_in_lists(rt, alloc, input.as_slice(), threads, LEAST_PART)?;
-            Ok((day, Memory::Text(input)))
-        }
-    }
+    let pieces = read_pieces(alloc, reader)?;
+    let day = read_day_of_pieces(rt, alloc, pieces.as_slice(), threads, LEAST_PART)?;
+    Ok((day, pieces))
 }

@@ -43,7 +43,6 @@ mod fault;
 mod faulty;
 mod input;
 mod line;
-mod memory;
 mod offset;
 mod pieces;
 mod ranged;

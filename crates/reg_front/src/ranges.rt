@@ -1,15 +1,15 @@
 //! A file that is read in pieces, each a range of its bytes, by several threads at once.
 
-ghost use Rattle.std.specs.Prelude.{◌≡◌, ◌≤◌, ◌<◌, ◌++◌, ℕ, List, Option, IfOk, IfSome, IsTrue, drop, length};
-ghost use Rattle.std.specs.Prelude.{slice_range, take};
-ghost use Rattle.std.specs.Thread.{IsSync};
+ghost use Rattle.std.specs.Prelude.{◌≡◌, ◌≤◌, ◌<◌, ◌+◌, ◌++◌, ◌∷◌, [], ℕ, List, Option, Some, IfOk, IfSome, IsTrue};
+ghost use Rattle.std.specs.Prelude.{drop, length, map, slice_range, take, vec_len};
 ghost use Rattle.reg_text.specs.Pieces.{text_of_pieces};
 ghost use Rattle.reg_front.specs.Devices.{most_input};
+ghost use Rattle.reg_front.specs.Ranges.{AreRanges, IsRange};
 
 use crate::cuts::find_cuts;
 use crate::device::MOST_INPUT;
 use reg_text::in_large_pages;
-use std::alloc::Global;
+use std::alloc::{AllocError, Global};
 use std::thread;
 use std::thread::Threads;
 
@@ -50,9 +50,7 @@ fn fill<F: ReadAt>(file: &F, offset: u64, room: &mut [u8]) -> Result<(), NotFill
 
 // The bytes from one offset up to another.
 fn read_range<F: ReadAt>(alloc: Global, file: &F, from: u64, to: u64) -> Option<Vec<u8>>
-    ensures order { IfSome result (λ piece. from ≤ to) }
-    ensures bytes { IfSome result (λ piece. IfSome (F.contents file.now)
-        (λ bytes. piece.items ≡ slice_range bytes from to)) }
+    ensures { IsRange (F.contents file.now) from to result }
 {
     let length = usize::try_from(to.checked_sub(from)?).ok()?;
     let mut piece = Vec::new(alloc);
@@ -64,20 +62,48 @@ fn read_range<F: ReadAt>(alloc: Global, file: &F, from: u64, to: u64) -> Option<
     Some(piece)
 }
 
-// A piece, and behind it others.
-fn put_before(pieces: (Vec<u8>, Vec<Vec<u8>>)) -> Option<Vec<Vec<u8>>>
-    ensures { IfSome result (λ all. text_of_pieces all.items ≡ pieces.0.items ++ text_of_pieces pieces.1.items) }
+// Where pieces begin, and where the last one ends.
+fn all_offsets(alloc: Global, from: u64, cuts: &[u64], to: u64) -> Result<Vec<u64>, AllocError>
+    ensures { IfOk result (λ offsets. offsets.items ≡ from ∷ cuts.now ++ to ∷ []) }
 {
-    let (first, mut all) = pieces;
-    let Ok(()) = all.insert(0, first) else {
-        return None;
-    };
-    Some(all)
+    let mut offsets = Vec::new(alloc);
+    offsets.push(from)?;
+    offsets.extend_from_slice(cuts)?;
+    offsets.push(to)?;
+    Ok(offsets)
 }
 
-// The bytes from one offset up to another, in pieces that begin at these offsets. Each piece but the last is read by a
-// thread of its own where one can be started.
-#[cycle(reading)]
+// The bytes from each of these offsets up to the next one, each range by a thread of its own where one can be started.
+fn read_ranges<T: Threads + Sync, F: ReadAt + Sync>(
+    rt: &T,
+    alloc: Global,
+    file: &F,
+    offsets: &[u64],
+) -> Result<Vec<Option<Vec<u8>>>, AllocError>
+    requires { 1 ≤ length offsets.now }
+    ensures len { IfOk result (λ read. vec_len read + 1 ≡ length offsets.now) }
+    ensures each { IfOk result (λ read. AreRanges (F.contents file.now) offsets.now read.items) }
+{
+    thread::map_indices(
+        rt,
+        alloc,
+        offsets.len() - 1,
+        &|i| { read_range(alloc, file, offsets[i], offsets[i + 1]) },
+    )
+}
+
+// These pieces, if each was read.
+fn all_read(alloc: Global, read: Vec<Option<Vec<u8>>>) -> Option<Vec<Vec<u8>>>
+    ensures { IfSome result (λ pieces. map Some pieces.items ≡ read.items) }
+{
+    let mut pieces = Vec::new(alloc);
+    for piece in read {
+        pieces.push(piece?).ok()?;
+    }
+    Some(pieces)
+}
+
+// The bytes from one offset up to another, in pieces that begin at these offsets.
 fn read_cut<T: Threads + Sync, F: ReadAt + Sync>(
     rt: &T,
     alloc: Global,
@@ -90,42 +116,12 @@ fn read_cut<T: Threads + Sync, F: ReadAt + Sync>(
     ensures bytes { IfSome result (λ pieces. IfSome (F.contents file.now)
         (λ bytes. text_of_pieces pieces.items ≡ slice_range bytes from to)) }
 {
-    match cuts.split_first() {
-        None => put_before((read_range(alloc, file, from, to)?, Vec::new(alloc))),
-        Some((cut, later)) => {
-            let both = read_both(rt, alloc, file, from, *cut, later, to)?;
-            let all = put_before(both)?;
-            Some(all)
-        }
-    }
-}
-
-// The first piece in a thread of its own, and those behind it.
-#[cycle(reading)]
-fn read_both<T: Threads + Sync, F: ReadAt + Sync>(
-    rt: &T,
-    alloc: Global,
-    file: &F,
-    from: u64,
-    cut: u64,
-    later: &[u64],
-    to: u64,
-) -> Option<(Vec<u8>, Vec<Vec<u8>>)>
-    ensures order { IfSome result (λ both. (from ≤ cut) × (cut ≤ to)) }
-    ensures first { IfSome result (λ both. IfSome (F.contents file.now)
-        (λ bytes. both.0.items ≡ slice_range bytes from cut)) }
-    ensures others { IfSome result (λ both. IfSome (F.contents file.now)
-        (λ bytes. text_of_pieces both.1.items ≡ slice_range bytes cut to)) }
-{
-    let front = move || read_range(alloc, file, from, cut);
-    let back = move || -> Option<Vec<Vec<u8>>>
-        requires { IsSync T.row × IsSync F.row }
-        ensures order { IfSome result (λ pieces. cut ≤ to) }
-        ensures bytes { IfSome result (λ pieces. IfSome (F.contents file.entry.now)
-            (λ bytes. text_of_pieces pieces.items ≡ slice_range bytes cut to)) }
-    { read_cut(rt, alloc, file, cut, later, to) };
-    let (first, others) = thread::join(rt, front, back);
-    Some((first?, others?))
+    let offsets = all_offsets(alloc, from, cuts, to).ok()?;
+    let Ok(read) = read_ranges(rt, alloc, file, &offsets) else {
+        return None;
+    };
+    let pieces = all_read(alloc, read)?;
+    Some(pieces)
 }
 
 // Whether the file ends at this offset, or before it.

@@ -1,8 +1,8 @@
 //! The text of each command, for a day that was read.
 
-ghost use Rattle.std.specs.Prelude.{◌≡◌, ◌≤◌, ◌+◌, ◌++◌, [], true, None, IfOk, MatchResult};
+ghost use Rattle.std.specs.Prelude.{◌≡◌, ◌<◌, ◌≤◌, ◌+◌, ◌++◌, [], true, None, IfOk, MatchResult};
 ghost use Rattle.reg_book.specs.Chains.{book_after};
-ghost use Rattle.reg_book.specs.Day.{log_of, rows_replied};
+ghost use Rattle.reg_book.specs.Day.{day_of, log_of, replies_of, rows_replied};
 ghost use Rattle.reg_base.specs.Workers.{may_work};
 ghost use Rattle.reg_text.specs.Inputs.{day_of_input, day_of_parts};
 ghost use Rattle.reg_text.specs.NextDays.{report_of};
@@ -19,14 +19,13 @@ ghost use Rattle.reg_front.specs.Runs.{command_fault, IsTextFor, IsCommandFault}
 
 use crate::command::Command;
 use crate::fault::FrontFault;
-use crate::memory::Memory;
 use reg_base::{AccountNo, Batch, NoMemory, Rules};
-use reg_book::{ClosedDay, ClosedParts, Parts, log_is_made_again, settle_in_place};
+use reg_book::{ClosedParts, Parts, log_is_made_again, settle_in_place};
 use reg_plan::Plan;
 use reg_regions::{FreePlaces, are_allowed, settle_without_shifts};
 use reg_text::{
     DayInput, DayParts, StatementFault, figures_of_parts, plan_text, statement, totals_of_parts,
-    write_report_over, write_report_pieces,
+    write_report_pieces,
 };
 use std::alloc::Global;
 use std::thread::Threads;
@@ -34,26 +33,18 @@ use std::thread::Threads;
 // So many instructions or more are what one of several threads looks up: to start one for fewer would take longer.
 const FEW: u32 = 1_024;
 
-/// The day that a command closed, by one worker or by several.
-#[derive(Drop)]
-enum Closed {
-    None,
-    InPlace(ClosedDay),
-    ByRegions(ClosedParts),
-}
-
 /// The text of a command, and the closed day from which it was made, if the command closed the day. Whoever has it
 /// frees it, or leaves that to the end of the program.
 #[derive(Drop)]
 pub(crate) struct Used {
-    // What comes before `text`: none, unless several workers have spelled it.
+    // What comes before `text`: the pieces of a report.
     pub(crate) pieces: Vec<Vec<u8>>,
     pub(crate) text: Vec<u8>,
-    closed: Closed,
+    closed: Option<ClosedParts>,
 }
 
-/// The text of a command for a day, made by so many threads. Those of `settle` are its workers. The input that lay in
-/// `memory` is no longer needed: a report and a text of figures take its memory, and for another text it is given back.
+/// The text of a command for a day, made by so many threads. Those of `settle` are its workers. The pieces of the input
+/// are no longer needed: a report and a text of figures take their memory, and for another text it is given back.
 ///
 /// # Errors
 /// `Workers` if the number of workers is not 1 to 8, and `NoAccount` if the account of a statement is not in the book.
@@ -62,7 +53,7 @@ pub(crate) fn make_text<T: Threads + Sync>(
     rt: &T,
     alloc: Global,
     day: DayParts,
-    memory: Memory,
+    input: Vec<Vec<u8>>,
     command: &Command,
     threads: u32,
 ) -> Result<Used, FrontFault>
@@ -74,34 +65,41 @@ pub(crate) fn make_text<T: Threads + Sync>(
         (IsCommandFault command.now day.parts) }
 {
     match *command {
-        Command::Settle { workers: 1 } => {
-            make_report_in_place(alloc, day, memory.into_text(alloc))
-        }
         Command::Settle { workers } => {
             if !are_allowed(workers) {
                 return Err(FrontFault::Workers);
             }
-            let used = make_report(rt, alloc, day, memory.into_pieces(alloc), workers)?;
+            let used = make_report(rt, alloc, day, input, workers)?;
             Ok(used)
         }
-        Command::Figures => make_figures(rt, alloc, day, memory.into_text(alloc), threads),
+        Command::Figures => make_figures(rt, alloc, day, largest_of(alloc, input), threads),
         Command::Plan => {
-            drop(memory);
+            drop(input);
             make_plan(rt, alloc, &day, threads)
         }
         Command::Statement { account } => {
-            drop(memory);
+            drop(input);
             make_statement(alloc, day, account)
         }
         Command::Totals => {
-            drop(memory);
+            drop(input);
             make_totals(rt, alloc, day, threads)
         }
     }
 }
 
-// The report of the day, settled by workers, who also spell it, in pieces, in the place of texts that are no longer
-// needed.
+// The memory of the largest of these texts, if there is one; that of the others is given back.
+fn largest_of(alloc: Global, texts: Vec<Vec<u8>>) -> Vec<u8> {
+    let mut largest = Vec::new(alloc);
+    for text in texts {
+        if text.capacity() > largest.capacity() {
+            largest = text;
+        }
+    }
+    largest
+}
+
+// The report of the day, settled by workers, who also spell it, in the place of texts that are no longer needed.
 fn make_report<T: Threads + Sync>(
     rt: &T,
     alloc: Global,
@@ -112,7 +110,7 @@ fn make_report<T: Threads + Sync>(
     requires follows { day.batch.base + 1 ≡ day.parts.next }
     requires workers { may_work workers ≡ true }
     ensures text { IfOk result (λ used. text_made used ≡ report_of (day_of_parts day)) }
-    ensures worked { IfOk result (λ used. WereSettledBy day.batch workers) }
+    ensures worked { IfOk result (λ used. 1 < workers → WereSettledBy day.batch workers) }
 {
     log_is_made_again();
     let DayParts {
@@ -120,7 +118,7 @@ fn make_report<T: Threads + Sync>(
         parts,
         batch,
     } = day;
-    let closed = settle_without_shifts(rt, alloc, parts, &rules, &batch, workers, &FreePlaces)?;
+    let closed = close_day(rt, alloc, parts, &rules, &batch, workers)?;
     let used = spell(rt, alloc, closed, &batch, spare, workers as usize)?;
     Ok(used)
 }
@@ -143,33 +141,12 @@ fn spell<T: Threads + Sync>(
     Ok(Used {
         pieces,
         text: Vec::new(alloc),
-        closed: Closed::ByRegions(closed),
+        closed: Some(closed),
     })
 }
 
-// The report of the day, settled on its own book, in the place of bytes that are no longer needed.
-fn make_report_in_place(alloc: Global, day: DayParts, bytes: Vec<u8>) -> Result<Used, FrontFault>
-    requires { day.batch.base + 1 ≡ day.parts.next }
-    ensures { MatchResult result
-        (λ used. text_made used ≡ report_of (day_of_parts day))
-        (λ fault. fault ≡ front.NoMemory) }
-{
-    log_is_made_again();
-    let DayParts {
-        rules,
-        parts,
-        batch,
-    } = day;
-    let Ok(book) = parts.into_book(alloc) else {
-        return Err(FrontFault::NoMemory);
-    };
-    let closed = settle_in_place(alloc, book, &rules, &batch)?;
-    let text = write_report_over(bytes, &closed.book, &batch, closed.replies.as_slice())?;
-    Ok(used_for(alloc, text, Closed::InPlace(closed)))
-}
-
 // What a command has used whose text is one piece.
-fn used_for(alloc: Global, text: Vec<u8>, closed: Closed) -> Used
+fn used_for(alloc: Global, text: Vec<u8>, closed: Option<ClosedParts>) -> Used
     ensures { text_made result ≡ text.items }
 {
     Used {
@@ -193,7 +170,7 @@ fn make_plan<T: Threads + Sync>(
     let directory = day.parts.directory();
     let plan = Plan::of_with(rt, alloc, &day.batch, directory, threads, FEW)?;
     let text = plan_text(alloc, &plan)?;
-    Ok(used_for(alloc, text, Closed::None))
+    Ok(used_for(alloc, text, None))
 }
 
 // The statement of an account.
@@ -211,7 +188,7 @@ fn make_statement(alloc: Global, day: DayParts, account: AccountNo) -> Result<Us
         return Err(FrontFault::NoMemory);
     };
     let text = state_account(alloc, &input, account)?;
-    Ok(used_for(alloc, text, Closed::None))
+    Ok(used_for(alloc, text, None))
 }
 
 // The text of the statement of an account that is in the book.
@@ -243,9 +220,9 @@ fn make_figures<T: Threads + Sync>(
         (λ used. text_made used ≡ text_of (figures_rows (book_after (day_of_parts day))))
         (λ fault. fault ≡ front.NoMemory) }
 {
-    let closed = close_day(rt, alloc, day, threads)?;
+    let closed = close_day(rt, alloc, day.parts, &day.rules, &day.batch, threads)?;
     let text = figures_of_parts(bytes, &closed.parts)?;
-    Ok(used_for(alloc, text, Closed::ByRegions(closed)))
+    Ok(used_for(alloc, text, Some(closed)))
 }
 
 // The totals after the day.
@@ -261,26 +238,52 @@ fn make_totals<T: Threads + Sync>(
         (λ used. text_made used ≡ text_of (totals_rows (book_after (day_of_parts day))))
         (λ fault. fault ≡ front.NoMemory) }
 {
-    let closed = close_day(rt, alloc, day, threads)?;
+    let closed = close_day(rt, alloc, day.parts, &day.rules, &day.batch, threads)?;
     let text = totals_of_parts(alloc, &closed.parts)?;
-    Ok(used_for(alloc, text, Closed::ByRegions(closed)))
+    Ok(used_for(alloc, text, Some(closed)))
 }
 
-// Settles the day on its own book, by so many threads.
+// Settles a day on its own book, by so many threads. One alone deals nothing out.
 fn close_day<T: Threads + Sync>(
     rt: &T,
     alloc: Global,
-    day: DayParts,
+    parts: Parts,
+    rules: &Rules,
+    batch: &Batch,
     threads: u32,
 ) -> Result<ClosedParts, NoMemory>
-    requires follows { day.batch.base + 1 ≡ day.parts.next }
+    requires follows { batch.now.base + 1 ≡ parts.next }
     requires threads { may_work threads ≡ true }
-    ensures { IfOk result (λ closed. closed.parts ≡ book_after (day_of_parts day)) }
+    ensures book { IfOk result (λ closed. closed.parts ≡ book_after (day_of parts rules.now batch.now)) }
+    ensures replies { IfOk result (λ closed. closed.replies.items ≡ replies_of (day_of parts rules.now batch.now)) }
+    ensures worked { IfOk result (λ closed. 1 < threads → WereSettledBy batch.now threads) }
 {
-    let DayParts {
-        rules,
+    if threads == 1 {
+        return close_alone(alloc, parts, rules, batch);
+    }
+    settle_without_shifts(rt, alloc, parts, rules, batch, threads, &FreePlaces)
+}
+
+// The same by one thread, in the order of the batch.
+fn close_alone(
+    alloc: Global,
+    parts: Parts,
+    rules: &Rules,
+    batch: &Batch,
+) -> Result<ClosedParts, NoMemory>
+    requires { batch.now.base + 1 ≡ parts.next }
+    ensures book { IfOk result (λ closed. closed.parts ≡ book_after (day_of parts rules.now batch.now)) }
+    ensures replies { IfOk result (λ closed. closed.replies.items ≡ replies_of (day_of parts rules.now batch.now)) }
+{
+    let Ok(book) = parts.into_book(alloc) else {
+        return Err(NoMemory);
+    };
+    let closed = settle_in_place(alloc, book, rules, batch)?;
+    let Ok(parts) = Parts::of_book(alloc, closed.book) else {
+        return Err(NoMemory);
+    };
+    Ok(ClosedParts {
         parts,
-        batch,
-    } = day;
-    settle_without_shifts(rt, alloc, parts, &rules, &batch, threads, &FreePlaces)
+        replies: closed.replies,
+    })
 }

@@ -64,9 +64,7 @@ fn try_deal<R: Threads + Sync>(
         return Ok(None);
     };
     let runs = runs_of(batch.len(), workers);
-    let mut found = find_by_runs(rt, alloc, lists, &layout, batch.instructions(), runs)?;
-    // (the last run came first)
-    found.reverse();
+    let found = find_by_runs(rt, alloc, lists, &layout, batch.instructions(), runs)?;
     match deal_bundles(alloc, &layout, &found, batch.len(), workers)? {
         Some(dealing) => Ok(Some(dealing)),
         None => Ok(Some(deal_to_one(alloc, lists.len(), batch.len(), found)?)),

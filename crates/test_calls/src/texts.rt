@@ -8,7 +8,7 @@ use reg_base::{AccountNo, NoMemory};
 use reg_book::settle_plain;
 use reg_rules::{Closing, Holdings, LogRow, Reply};
 use reg_text::{
-    DayFault, DayInput, DayParts, Version, all_statements, figures, read_day, read_day_in_lists,
+    DayFault, DayInput, DayParts, Version, all_statements, figures, read_day, read_day_of_pieces,
     read_instruction, read_version, statement, totals_text, write_book, write_front, write_log_row,
     write_report, write_report_pieces,
 };
@@ -98,8 +98,17 @@ fn how_joined(alloc: Global, answer: Result<DayParts, DayFault>) -> Ended {
     }
 }
 
-/// Tries `read_day_in_lists` by at most so many parts of any size: it is to end as `read_day` does.
-pub(crate) fn try_read_in_lists<R: Threads + Sync, W: Write>(
+// A text as one piece.
+fn one_piece(alloc: Global, text: &[u8]) -> Result<Vec<Vec<u8>>, NoMemory> {
+    let mut piece = Vec::new(alloc);
+    piece.extend_from_slice(text)?;
+    let mut pieces = Vec::new(alloc);
+    pieces.push(piece)?;
+    Ok(pieces)
+}
+
+/// Tries `read_day_of_pieces` by at most so many parts of any size: it is to end as `read_day` does.
+pub(crate) fn try_read_pieces<R: Threads + Sync, W: Write>(
     rt: &R,
     alloc: Global,
     text: &[u8],
@@ -107,7 +116,11 @@ pub(crate) fn try_read_in_lists<R: Threads + Sync, W: Write>(
     writer: &mut W,
 ) -> Result<(), Stop> {
     let wanted = how_read(read_day(alloc, text));
-    let call = || how_joined(alloc, read_day_in_lists(rt, alloc, text, parts as usize, 1));
+    let pieces = one_piece(alloc, text)?;
+    let call = || how_joined(
+        alloc,
+        read_day_of_pieces(rt, alloc, &pieces, parts as usize, 1),
+    );
     try_threads(&text, call, wanted, writer)
 }
 
@@ -127,15 +140,6 @@ fn digest_of_pieces(pieces: &[Vec<u8>]) -> Digest {
     digest
 }
 
-// One text that is no longer needed.
-fn make_spare(alloc: Global) -> Result<Vec<Vec<u8>>, NoMemory> {
-    let mut text = Vec::new(alloc);
-    text.extend_from_slice(b"no longer needed")?;
-    let mut spare = Vec::new(alloc);
-    spare.push(text)?;
-    Ok(spare)
-}
-
 // Spells the report of a day by so many threads, or by one if the number is 0, in the memory of a text that is no
 // longer needed.
 fn spell_pieces<R: Threads + Sync>(
@@ -146,7 +150,7 @@ fn spell_pieces<R: Threads + Sync>(
     threads: u32,
 ) -> Result<Vec<Vec<u8>>, NoMemory> {
     let (parts, batch) = (&day.parts, &day.batch);
-    let spare = make_spare(alloc)?;
+    let spare = one_piece(alloc, b"no longer needed")?;
     if threads == 0 {
         return write_report_pieces(rt, alloc, parts, batch, replies, spare, 1);
     }
@@ -189,7 +193,8 @@ pub(crate) fn try_pieces<R: Threads + Sync, W: Write>(
     threads: u32,
     writer: &mut W,
 ) -> Result<(), Stop> {
-    let Ok(day) = read_day_in_lists(rt, alloc, text, readers as usize, 1) else {
+    let pieces = one_piece(alloc, text)?;
+    let Ok(day) = read_day_of_pieces(rt, alloc, &pieces, readers as usize, 1) else {
         return Err(Stop::Input);
     };
     let Ok(input) = read_day(alloc, text) else {

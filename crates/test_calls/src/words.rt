@@ -11,7 +11,7 @@ use crate::steps::try_execute;
 use crate::stop::Stop;
 use crate::tasks::{try_context, try_gather, try_opening, try_run};
 use crate::texts::{
-    Written, try_pieces, try_read, try_read_in_lists, try_read_row, try_read_version, try_text,
+    Written, try_pieces, try_read, try_read_pieces, try_read_row, try_read_version, try_text,
 };
 use crate::worlds::{try_event, try_start};
 use crate::yards::{try_put, try_yard};
@@ -43,8 +43,8 @@ pub fn try_named<R: Threads + Wait + Sync, W: Write>(
     if name == "read_version" {
         return try_read_version(alloc, text, writer);
     }
-    if name == "read_day_in_lists" {
-        return try_read_in_lists(rt, alloc, text, number, writer);
+    if name == "read_day_of_pieces" {
+        return try_read_pieces(rt, alloc, text, number, writer);
     }
     if name == "write_report_pieces" {
         return try_pieces(rt, alloc, text, 1, number, writer);

@@ -119,6 +119,31 @@ impl Meeting {
     }
 }
 
+// A gate at which all workers meet, and which adds up who passes it with which place.
+#[derive(Drop)]
+struct Sums {
+    meeting: Meeting,
+    entered: AtomicU32,
+    left: AtomicU32,
+}
+
+impl PlaceGate for Sums {
+    fn enter(&self, worker: u32, place: u32) {
+        self.entered
+            .fetch_add(told_of(worker, place), Ordering::SeqCst);
+        self.meeting.enter(worker, place);
+    }
+
+    fn leave(&self, worker: u32, place: u32) {
+        self.left
+            .fetch_add(told_of(worker, place), Ordering::SeqCst);
+    }
+}
+
+fn told_of(worker: u32, place: u32) -> u32 {
+    place.wrapping_mul(100).wrapping_add(worker)
+}
+
 // Six transfers to unknown accounts, which touch no account: a region each, as many as two workers want.
 const SIX: &str = "\
 do,2025-03-31,101,102,transfer,1,71,general,1
@@ -175,6 +200,19 @@ fn eight_workers_run_eight_bundles_at_once(rt: HostRuntime) {
         "0:1 =0 1:1 =0 2:1 =0 3:1 =0 4:1 =0 5:1 =0 6:1 =0 7:1 =0 "
     );
     assert_eq!(rt; gate.missed.load(Ordering::SeqCst), 0);
+}
+
+// Eight workers, 0 to 7, carry out one instruction each, at the places 1 to 8.
+#[test]
+fn each_worker_passes_the_gate_by_its_number(rt: HostRuntime) {
+    let gate = Sums {
+        meeting: Meeting::of(8),
+        entered: AtomicU32::new(0),
+        left: AtomicU32::new(0),
+    };
+    shifts(&rt, rt.alloc(), UNKNOWN, 8, &gate);
+    assert_eq!(rt; gate.entered.load(Ordering::SeqCst), 3_628);
+    assert_eq!(rt; gate.left.load(Ordering::SeqCst), 3_628);
 }
 
 // The one that is not held runs its own three, and then steals both that lie in the deque of the other.

@@ -1,7 +1,5 @@
 //! Where the accounts of instructions stand in lists.
 
-ghost use Rattle.std.specs.Prelude.{◌≤◌};
-ghost use Rattle.std.specs.Thread.{IsSync};
 ghost use Rattle.reg_base.specs.Rising.{IsRising};
 ghost use Rattle.reg_rules.specs.State.{numbers};
 ghost use Rattle.reg_regions.specs.Lists.{joined_lists};
@@ -15,8 +13,8 @@ use std::alloc::Global;
 use std::thread;
 use std::thread::Threads;
 
-/// For each instruction the indexes of the accounts that it touches, in so many runs, of which the last comes first.
-/// Each but the last is looked up by a thread of its own where one can be started.
+/// For each instruction the indexes of the accounts that it touches, in so many runs, about. Each run is looked up by a
+/// thread of its own where one can be started.
 ///
 /// # Errors
 /// `NoMemory` if memory ran out.
@@ -30,27 +28,24 @@ pub(crate) fn find_by_runs<R: Threads + Sync>(
 ) -> Result<Vec<Vec<Indexes>>, NoMemory>
     requires { IsRising (numbers (joined_lists lists.now)) }
 {
-    if runs < 2 {
-        let last = find_indexes(alloc, lists, layout, instructions)?;
-        return Ok(vec![in alloc; last]?);
-    }
-    let size = instructions.len() / runs as usize;
-    let (run, rest) = instructions.split_at(size.min(instructions.len()));
-    let (front, back) = thread::join(
+    let size = (instructions.len() / runs.max(1) as usize).saturating_add(1);
+    let found = thread::map_chunks(
         rt,
-        move || -> Result<Vec<Indexes>, NoMemory>
+        alloc,
+        instructions,
+        size,
+        &|_, run|
             requires { IsRising (numbers (joined_lists lists.now)) }
         { find_indexes(alloc, lists, layout, run) },
-        move || -> Result<Vec<Vec<Indexes>>, NoMemory>
-            requires { IsSync R.row × IsRising (numbers (joined_lists lists.now)) × (2 ≤ runs) }
-        { find_by_runs(rt, alloc, lists, layout, rest, runs - 1) },
-    );
-    let (run, mut all) = (front?, back?);
-    all.push(run)?;
+    )?;
+    let mut all = Vec::with_capacity(alloc, found.len())?;
+    for run in found {
+        all.push(run?)?;
+    }
     Ok(all)
 }
 
-// The same by one thread.
+// Those of a run.
 fn find_indexes(
     alloc: Global,
     lists: &[Vec<Account>],

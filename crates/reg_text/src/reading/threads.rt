@@ -1,24 +1,21 @@
 //! Reading a day text by several threads. An answer `None` says that something is in the way: then one thread reads the
 //! whole text row by row.
 
-ghost use Rattle.std.specs.Prelude.{◌≡◌, ◌≤◌, ◌++◌, MatchResult, Some, IfOk, IfSome, vec_len, length};
+ghost use Rattle.std.specs.Prelude.{◌≡◌, ◌≤◌, ◌++◌, Some, IfOk, IfSome, vec_len, length};
 ghost use Rattle.reg_cuts.specs.Parts.{text_of_parts};
 ghost use Rattle.reg_cuts.specs.Rows.{rows_in_text};
 ghost use Rattle.reg_text.specs.declared.reading.tag.Tag.TheVariants as tag;
 ghost use Rattle.reg_text.specs.Drafts.{draft_of};
 ghost use Rattle.reg_text.specs.Day.{day_said};
 ghost use Rattle.reg_text.specs.DraftLimits.{FitsSoFar, IsDraft};
-ghost use Rattle.reg_text.specs.Faults.{AnswersFault, at_end, day_of_rows};
+ghost use Rattle.reg_text.specs.Faults.{at_end, day_of_rows};
 ghost use Rattle.reg_text.specs.Joining.{IsHeading};
 ghost use Rattle.reg_text.specs.PartsRead.{ReadsAt};
 
-use crate::cause::DayFault;
 use crate::reading::draft::Draft;
 use crate::reading::joining::join_all;
 use crate::reading::parts::{Part, read_heading, read_part};
 use crate::reading::tag::Tag;
-use crate::reading::text::read_rows;
-use reg_cuts::{cut_near, cut_parts};
 use std::alloc::{AllocError, Global};
 use std::thread;
 use std::thread::Threads;
@@ -27,8 +24,8 @@ use std::thread::Threads;
 /// account follows.
 pub(crate) const STARTS: [&[u8]; 2] = [b"\naccount,", b"\ndo,"];
 
-// The number of parts of a text of so many bytes, at most the wanted one: each part has `least` bytes or more, about.
-fn count_parts(bytes: usize, wanted: usize, least: usize) -> usize
+/// The number of parts of a text of so many bytes, at most the wanted one: each part has `least` bytes or more, about.
+pub(crate) fn count_parts(bytes: usize, wanted: usize, least: usize) -> usize
     ensures { 1 ≤ result }
 {
     (bytes / least.max(1)).min(wanted).max(1)
@@ -78,46 +75,4 @@ pub(crate) fn read_all_parts<R: Threads + Sync>(
     } else {
         None
     }
-}
-
-// What the rows of a text say, read by at most so many parts behind the heading.
-fn read_by_parts<R: Threads + Sync>(
-    rt: &R,
-    alloc: Global,
-    text: &[u8],
-    count: usize,
-    least: usize,
-) -> Option<Draft>
-    requires { 1 ≤ count }
-    ensures { IfSome result (λ draft. FitsSoFar (draft_of draft) × (draft.body.last ≡ Some tag.End)
-        × (day_of_rows (rows_in_text text.now) ≡ at_end 0 (day_said (draft_of draft)))) }
-{
-    let (head, body) = cut_near(text, &STARTS, 0);
-    let Ok(parts) = cut_parts(alloc, body, &STARTS, count) else {
-        return None;
-    };
-    read_all_parts(rt, alloc, head, &parts, least)
-}
-
-/// What the rows of a text say, up to its row `end`, read by at most so many parts, each of which has so many bytes or
-/// more, about: the same as `read_rows`.
-pub(crate) fn read_rows_with<R: Threads + Sync>(
-    rt: &R,
-    alloc: Global,
-    text: &[u8],
-    wanted: usize,
-    least: usize,
-) -> Result<Draft, DayFault>
-    ensures { MatchResult result
-        (λ draft. FitsSoFar (draft_of draft) × (draft.body.last ≡ Some tag.End)
-        × (day_of_rows (rows_in_text text.now) ≡ at_end 0 (day_said (draft_of draft))))
-        (λ e. AnswersFault e (day_of_rows (rows_in_text text.now))) }
-{
-    let count = count_parts(text.len(), wanted, least);
-    if count > 1 {
-        if let Some(draft) = read_by_parts(rt, alloc, text, count, least) {
-            return Ok(draft);
-        }
-    }
-    read_rows(alloc, text)
 }

@@ -140,9 +140,10 @@ fn is_short(lists: &[Vec<Account>], replies: &[Reply]) -> bool {
 /// `parts` is the book after the day. The bytes of the pieces, one after another, are the text that
 /// [`write_report_over`](crate::write_report_over) makes; they are never put together. Threads spell runs of the log,
 /// and then runs of the lists in which the accounts lie, or of the accounts of a single list, and add these accounts up
-/// for the totals. A short report is one piece.
+/// for the totals. A short report, and one that a single thread spells, is one piece.
 ///
-/// `spare` are texts that are no longer needed, as the pieces of an input: the blocks of accounts take their memory.
+/// `spare` are texts that are no longer needed, as the pieces of an input: the blocks of accounts, or the one piece,
+/// take their memory.
 ///
 /// # Errors
 /// `NoMemory` if memory ran out. It is no error if a thread can't be started.
@@ -160,13 +161,13 @@ pub fn write_report_pieces<R: Threads + Sync>(
         ≡ text_of (report_rows parts.now (rows_replied batch.now replies.now))) }
 {
     let mut pieces = Vec::new(alloc);
-    if is_short(parts.lists(), replies) {
-        pieces.push(spell_report(alloc, parts, batch, replies)?)?;
+    let spare = Spare::of(alloc, spare);
+    if workers == 1 || is_short(parts.lists(), replies) {
+        pieces.push(spell_report(spare.take(alloc), parts, batch, replies)?)?;
         return Ok(pieces);
     }
     add_log(rt, alloc, &mut pieces, batch, replies, workers)?;
     pieces.push(spell_head(alloc, parts.next_record())?)?;
-    let spare = Spare::of(alloc, spare);
     let totals = add_blocks(rt, alloc, &mut pieces, &spare, parts, workers)?;
     pieces.push(spell_tail(alloc, &totals)?)?;
     Ok(pieces)

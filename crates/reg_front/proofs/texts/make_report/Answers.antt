@@ -8,4 +8,4 @@ returns-clause-text g c =
     let closed = c.in_ok-closed.closed in
     let used = c.in_ok-used.used in
     reported c.log_is_made_again.ensures (day_of_parts c.args.day) closed.parts closed.replies.items
-    (text_made used) c.in_ok-closed.ensures.parts c.in_ok-closed.ensures.replies c.in_ok-used.ensures
+    (text_made used) c.in_ok-closed.ensures.book c.in_ok-closed.ensures.replies c.in_ok-used.ensures
