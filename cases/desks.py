@@ -18,8 +18,9 @@ from reread import FORBIDDEN, Attributes, Page, named
 
 from registry_tools.desk import app
 from registry_tools.desk.gate import Served
-from registry_tools.desk.heads import SECRET_HEADER, Proxy
-from registry_tools.desk.jobs import COMMAND, Started
+from registry_tools.desk.jobs import COMMAND
+from registry_tools.door.commands import Started
+from registry_tools.door.heads import SECRET_HEADER, Proxy
 from registry_tools.store import file
 from registry_tools.store.events import LABELLED, MAY_LACK, Event, now
 from registry_tools.store.file import Store

@@ -13,8 +13,9 @@ from werkzeug.exceptions import HTTPException, NotFound, RequestEntityTooLarge
 from werkzeug.wrappers import Response
 
 from registry_tools import voice
-from registry_tools.desk import asks, coming, gate, heads, machines, pages, posts, questions, search, shown, words
+from registry_tools.desk import asks, coming, gate, machines, own, pages, posts, questions, search, shown, words
 from registry_tools.desk.gate import Served
+from registry_tools.door import heads
 from registry_tools.errors import Fault, FileFault
 from registry_tools.pages import beside, html
 from registry_tools.pages.rulebook import FORMATS, RULES
@@ -95,6 +96,8 @@ def make(served: Served) -> flask.Flask:
     app.teardown_request(lambda _: flask.g.pop("voice", contextlib.ExitStack()).close())
     # (the gate stands before all pages, also those that are not there)
     app.before_request(functools.partial(gate.let_in, served))
+    # (and behind it, who is tied to a holder has a desk of their own)
+    app.before_request(functools.partial(own.answer, served))
     app.after_request(gate.with_headers)
     for fault in (Fault, OSError, HTTPException):
         app.register_error_handler(fault, functools.partial(failed, served))
@@ -155,10 +158,11 @@ def failed(served: Served, error: Exception) -> Any:
 def dress(app: flask.Flask, served: Served) -> None:
     """What all templates know."""
     hidden = OF_CHANGES if served.is_look else set()
-    groups = {of: {path: own[path] for path in own if path not in hidden} for of, own in GROUPS.items()}
+    groups = {of: {path: each[path] for path in each if path not in hidden} for of, each in GROUPS.items()}
     app.jinja_env.globals.update(
-        groups=groups, is_look=served.is_look, of_looking=OF_LOOKING, office=served.path.name,
-        token=lambda: flask.session["token"], once=lambda: secrets.token_hex(8), state=lambda: flask.g.state,
+        groups=lambda: own.GROUPS if gate.tied() else groups, is_look=served.is_look, of_looking=OF_LOOKING,
+        office=served.path.name,
+        token=lambda: flask.session["token"], once=lambda: secrets.token_hex(8), state=lambda: flask.g.get("state", ""),
         who=lambda: gate.known_name(served), says_name=not (served.who or served.proxy or served.door),
         may_not=lambda: gate.may_not(served), apart=beside.apart, time=voice.time,
         zone=words.zone, table=shown.sorted_table, acts=faults.ACT_WORDS,

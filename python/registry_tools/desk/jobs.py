@@ -18,6 +18,7 @@ from pathlib import Path
 from typing import Callable, Iterator
 
 from registry_tools import isolated, main, opening, outcomes
+from registry_tools.door.commands import MOST_SECONDS, Started
 from registry_tools.errors import FOUND, WordsFault
 from registry_tools.office.incoming import Given
 from registry_tools.outcomes import Kind
@@ -31,8 +32,6 @@ MOST_JOBS, UPLOAD_AGE = 200, 3_600
 MOST_ASKED, MOST_LETTERS = 1_000, 1 << 16
 # So many uploads wait at a time, of so many bytes in all, and each has so many files at most.
 MOST_WAITING, MOST_BYTES_WAITING, MOST_FILES = 100, 1 << 30, 1_000
-# So long the desk waits for the commands at its end, before it ends them otherwise.
-MOST_SECONDS = 60.0
 # Where a command tells what came of it.
 OUTCOME = "outcome.json"
 # How a line of progress begins, and what a name of an upload may have.
@@ -44,7 +43,6 @@ FINDING = ("hand-in", "audit", "try", "status", "send")
 NOTHING = "Nothing was done."
 KEY = re.compile("[0-9a-f]{32}")
 FORGOTTEN = "the desk knows nothing of this look any more"
-Started = subprocess.Popen[bytes]
 
 
 @dataclass

@@ -108,7 +108,8 @@ def is_for(served: Served, office: Office, waits: approvals.Waits) -> bool:
         return False
     with contextlib.suppress(WordsFault):
         mine = replace(office, login=gate.by(served).login)
-        approve.must_be_other(mine, (approvals.COMMAND_OF[waits.part.kind],), waits.part.who, waits.part.login)
+        commands = approvals.commands_for(office, waits.part, mine.login)
+        approve.must_be_other(mine, commands, waits.part.who, waits.part.login)
         return True
     return False
 
@@ -240,7 +241,7 @@ def totals_of(before: Mapping[str, Sums], after: Mapping[str, Sums]) -> Markup:
 
 def day_rows(served: Served) -> list[tuple[Any, ...]]:
     """All settled days, the last one first."""
-    told = releasing.days_told(served.reading.office())
+    told = taken.days_told(served.reading.office())
     return [(str(own.date), own.who, voice.time(own.at), own.next - own.first, *more) for own, *more in told]
 
 
@@ -326,7 +327,7 @@ def parts_of(settled: Settled, own: Reading) -> Iterator[Markup]:
     ]
     office, event = own.office(), own.office().events.day_of(settled.head.date)
     gone = [*map(row_of_taken, taken.of_day(office, settled.head.date))]
-    files = [(*row, voice.time(at)) for *row, at in approvals.files_of(office, event)] if event else []
+    files = [(*row, voice.time(at)) for *row, at in taken.files_of(office, event)] if event else []
     yield summary.lead(settled)
     if settled.log:
         yield summary.acts_table(settled)

@@ -5,11 +5,12 @@ from typing import Any
 import flask
 
 from registry_tools.cli.words import one_line
-from registry_tools.desk import asks, forms, gate, log
+from registry_tools.desk import asks, forms, gate
 from registry_tools.desk.asks import NOT_WHOLE
 from registry_tools.desk.gate import Served
 from registry_tools.desk.jobs import FORGOTTEN, Asked
 from registry_tools.desk.shown import form, back_of_form
+from registry_tools.door import log
 from registry_tools.errors import WordsFault
 from registry_tools.office.office import sum_of_outcome
 from registry_tools.office.people import MAY_WAIT

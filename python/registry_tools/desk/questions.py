@@ -23,7 +23,6 @@ from registry_tools.desk.reading import Reading
 from registry_tools.desk.shown import TYPED, asked, number_asked, row_of_taken, show_page
 from registry_tools.errors import FOUND, WordsFault
 from registry_tools.notes import BY_HAND
-from registry_tools.office import approvals, release as releasing
 from registry_tools.pages import compliance as standing
 from registry_tools.pages.month_standing import until_in_words
 from registry_tools.pages.beside import item_in_words, words_of_row
@@ -304,7 +303,7 @@ def cell_of(value: object) -> Cell:
 
 def days_file(served: Served, kind: str) -> Response:
     """All settled days, as a file."""
-    there = reversed([*releasing.days_told(served.reading.office())])
+    there = reversed([*taken.days_told(served.reading.office())])
     rows: list[Sequence[Cell]] = [
         (str(own.date), own.who, own.at, own.first, own.next, engine, is_out) for own, engine, is_out in there
     ]
@@ -325,7 +324,7 @@ def month_file(served: Served, kind: str) -> Response:
 def journal(served: Served) -> Any:
     """The page of what was done in the folder, and changed by hand."""
     office = served.reading.office()
-    who = functools.partial(approvals.who_and_second, office)
+    who = functools.partial(taken.who_and_second, office)
     events = [(voice.time(own.at), own.what, str(own.date), who(own.who, own.login, own.approved), own.why)
               for own in reversed(office.events.of_days())]  # fmt: skip
     by_hand = [(day, voice.time(own.part.at), who(own.part.who, own.part.login, second), own.part.name,

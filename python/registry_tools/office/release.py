@@ -1,6 +1,5 @@
 """Says that others know of a day of a folder now: from then on it is not undone any more, and no day before it."""
 import datetime
-from collections.abc import Iterator
 from dataclasses import dataclass
 
 from registry_tools import voice
@@ -65,14 +64,6 @@ def made_known(office: Office, filed: Event, why: str) -> Released | AskedFor:
         office.store.texts.get(own)
     said = {"of": filed.id, "date": filed.date, "first": filed.first, "next": filed.next}
     return Released(office.add(RELEASED, why=why, approved=approved, **said))
-
-
-def days_told(office: Office) -> Iterator[tuple[Event, str, str]]:
-    """The days of a folder, the last one first, each with what settled it and whether others know of it, in words."""
-    released = {event.date for event in office.events.all if event.what == RELEASED}
-    last = max(released, default=datetime.date.min)
-    for filed in reversed(office.events.days):
-        yield filed, str(settling.engine_named(filed.engine) or "not told"), "yes" if filed.date <= last else "no"
 
 
 def doubt_of(filed: Event) -> str:

@@ -123,8 +123,13 @@ def standing_of(head: rules.Day, account: rules.Account, year: int, entries: Ent
 def standings(day: DayText, report: Report, year: int) -> Iterator[Standing]:
     """How each operator and aircraft operator stands, rising by account. Raises FileFault if the library was built, and
     determines other figures than the report has."""
-    period_of(day.head, year)
     confirm_figures(day, report)
+    yield from standings_alone(day, report, year)
+
+
+def standings_alone(day: DayText, report: Report, year: int) -> Iterator[Standing]:
+    """The same, without comparing the figures of all accounts: a report may have some accounts alone."""
+    period_of(day.head, year)
     entries = Entries(day, report)
     for block in progress.over(report.book.values(), "looking at the accounts", len(report.book)):
         if block.kind in rules.OPERATORS:

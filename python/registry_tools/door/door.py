@@ -22,9 +22,9 @@ from typing import Any
 
 from registry_tools.cli.calling import COMMANDS
 from registry_tools.cli.link import LINKS
-from registry_tools.desk import heads, log
-from registry_tools.desk.heads import Head, Refusal
-from registry_tools.desk.kept import Kept
+from registry_tools.door import heads, log
+from registry_tools.door.heads import Head, Refusal
+from registry_tools.door.kept import Kept
 from registry_tools.errors import FileFault, WordsFault
 from registry_tools.layout import SETTINGS
 from registry_tools.office import people, settings
