@@ -303,7 +303,6 @@ def without_times(office: Path) -> dict[str, object]:
         for own in told:
             # (a text of names has times, and what was approved has the line of an event)
             own.update(dict.fromkeys((*MAY_LACK, "sum"), None))
-            own.pop("values", None)
         found |= {f"event {own['id']}": own for own in told}
         for (name,) in store.db.execute("SELECT name FROM sqlite_schema WHERE type = 'table'").fetchall():
             if name not in ("events", "texts"):

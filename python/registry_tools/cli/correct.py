@@ -18,7 +18,7 @@ exit status: 0 if it is done, 1 if --yes or another login is still needed.
 import argparse
 
 from registry_tools.calendars import dates
-from registry_tools.cli import papers, words
+from registry_tools.cli import files, papers, words
 from registry_tools.elsewhere import Source
 from registry_tools.errors import FOUND, Fault
 from registry_tools.office import folder
@@ -47,8 +47,8 @@ def add_words(parser: argparse.ArgumentParser) -> None:
 def run(said: argparse.Namespace) -> int:
     """Runs the command, and answers the exit status."""
     why, date = words.one_line("why", said.why), dates.date_of("DATE", said.date)
-    without, files = tuple(dict.fromkeys(said.without)), words.given(said.files)
-    asked = Correct(date, why, without, files, said.second, said.verify, said.yes)
+    without, given = tuple(dict.fromkeys(said.without)), files.given(said.files)
+    asked = Correct(date, why, without, given, said.second, said.verify, said.yes)
     with folder.opened(said.office) as office:
         try:
             came = correct(office, words.by(said, office), asked)

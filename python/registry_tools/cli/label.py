@@ -16,7 +16,7 @@ import argparse
 from collections.abc import Iterator
 
 from registry_tools import showing, tables
-from registry_tools.cli import answers, words
+from registry_tools.cli import answers, files, words
 from registry_tools.elsewhere import Source
 from registry_tools.errors import FileFault, WordsFault, shown
 from registry_tools.notes import first_of
@@ -42,7 +42,7 @@ def add_words(parser: argparse.ArgumentParser) -> None:
     ways.add_argument("--remove", action="store_true", help="it has no name any more")
     ways.add_argument("--file", metavar="FILE", type=Source, help="the names of a file")
     parser.add_argument("--mapping", metavar="FILE", type=Source, help="the columns and words of a table of others")
-    words.add_named(parser)
+    files.add_named(parser)
     words.add_office(parser)
     words.add_who(parser)
     parser.add_argument("--why", metavar="WORDS", help="the reason, which is kept: a change needs it")
@@ -94,7 +94,7 @@ def cells_of(said: argparse.Namespace, own: Label) -> list[showing.Cell]:
 def asked_of(said: argparse.Namespace) -> Iterator[Label]:
     """The names that the words ask for, or those of the file."""
     if said.file is not None:
-        (own,) = words.given([said.file], said.called)
+        (own,) = files.given([said.file], said.called)
         yield from names_in(own, said.mapping)
     else:
         kind, number, *name = said.named

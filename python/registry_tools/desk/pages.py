@@ -140,8 +140,8 @@ def hand_in(served: Served) -> Any:
     return show_page(
         "hand_in", "Hand in", act=act, fields=forms.instruction_fields(own, act, of) if act else [], empty=EMPTY,
         of=of, of_account=forms.told_of_account(own, of) if of else "", users=forms.users_entitled(own, act, of),
-        known=forms.accounts_offered(own) if act else [], cut=forms.cut_told(own), dates=forms.DATES, later=forms.LATER,
-        look=asked("look"), chosen=asks.chosen(served, asked("look")),
+        known=forms.accounts_offered(own) if act else [], cut=forms.cut_told(own) if act else "",
+        dates=forms.DATES, later=forms.LATER, look=asked("look"), chosen=asks.chosen(served, asked("look")),
     )  # fmt: skip
 
 

@@ -221,7 +221,7 @@ class Reading:
         filed = [event for event in office.events.days if event.date <= date][-2:]
 
         def work() -> ByHand:
-            *before, own = past.read_all([past.pair_of(office.store, event) for event in filed])
+            *before, own = past.read_all([office.store.pair_of(event) for event in filed])
             pair = (before[0].day, before[0].report) if before else None
             items = handed.for_a_day(office.store, filed[-1]).items(handed.CHANGES, handed.EDITS)
             told = [[voice.time(at), *more] for at, *more in told_by(items)]
@@ -318,8 +318,8 @@ class Reading:
 
 def read_settled(office: Office, event: Event, names: Labels) -> DeskSettled:
     """A settled day with its report and the names."""
-    own = next(past.read_all([past.pair_of(office.store, event)]))
-    earlier = send.waiting_of(past.kept(office.store, event, "waiting"), own)
+    own = next(past.read_all([office.store.pair_of(event)]))
+    earlier = send.waiting_of(office.store.kept(event, "waiting"), own)
     return DeskSettled(own.day, own.report, DeskBook("/"), Frame([]), own.report.book.keys(), earlier, names)
 
 

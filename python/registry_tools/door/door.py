@@ -20,6 +20,7 @@ from dataclasses import dataclass
 from pathlib import Path
 from typing import Any
 
+from registry_tools import frames
 from registry_tools.cli.calling import COMMANDS
 from registry_tools.cli.link import LINKS
 from registry_tools.door import heads, log
@@ -75,7 +76,7 @@ def peer_of(environ: Mapping[str, Any]) -> Peer:
 
 def peer_at(own: socket.socket) -> Peer:
     """Who is at the other end of a connection."""
-    return Peer(people.login_of(people.user_at(own)), str(own.getsockname()).endswith(LINKS))
+    return Peer(people.login_of(frames.user_at(own)), str(own.getsockname()).endswith(LINKS))
 
 
 class Links:

@@ -139,7 +139,7 @@ def law_of(office: Office, record: int) -> list[str]:
     event = next((own for own in office.events.days if own.first <= record < own.next), None)
     if event is None:
         return []
-    day, report = past.read(past.pair_of(office.store, event))
+    day, report = past.read(office.store.pair_of(event))
     logged = report.log[record - event.first]
     if not logged.is_done:
         return [f"record {record} needs none: it was refused"]
@@ -177,7 +177,7 @@ class Correction:
         self.waits = waits_of(self.office)
         self.days = [event for event in self.all_days if event.date >= self.asked.date]
         self.filed = [handed.for_a_day(store, event) for event in self.days]
-        self.before = [*past.read_all([past.pair_of(store, event) for event in self.days])]
+        self.before = [*past.read_all([store.pair_of(event) for event in self.days])]
         for record in self.asked.without:
             self.logged(record)
 
@@ -196,7 +196,7 @@ class Correction:
         row = logged.instruction.row
         said = f"--without {record}: it waited since an earlier day, which it was handed in for: {row}"
         for earlier in reversed([own for own in self.all_days if own.date < event.date]):
-            _, report = past.read(past.pair_of(self.office.store, earlier))
+            _, report = past.read(self.office.store.pair_of(earlier))
             waited = [own.record for own in report.log if own.name == NOT_DUE and own.instruction.row == row]
             if waited:
                 return f"{said}; {voice.command('correct', earlier.date, '--without', waited[0])} leaves it out"

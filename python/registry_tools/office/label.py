@@ -7,10 +7,9 @@ from registry_tools.errors import WordsFault, shown
 from registry_tools.notes import LOOK
 from registry_tools.office import approvals, composing
 from registry_tools.texts import labels
-from registry_tools.texts.labels import ACCOUNT, HOLDER, KINDS, USER, Label, Labels
+from registry_tools.texts.labels import ACCOUNT, HOLDER, KINDS, USER, Label, Labels, as_looked_up
 from registry_tools.office.office import By, Office
 from registry_tools.store.events import LABELLED, now
-from registry_tools.texts.in_words import as_looked_up
 from registry_tools.texts.rows import rows_of_text
 
 # So many slips are told one by one.

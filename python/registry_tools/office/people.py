@@ -16,8 +16,6 @@ import configparser
 import os
 import pwd
 import re
-import socket
-import struct
 from collections.abc import Collection
 from dataclasses import dataclass, field
 from pathlib import Path
@@ -140,12 +138,6 @@ def login_of(uid: int) -> str:
         return pwd.getpwuid(uid).pw_name
     except KeyError:
         return f"user {uid}"
-
-
-def user_at(own: socket.socket) -> int:
-    """The user of the system at the other end of a connection."""
-    _, user, _ = struct.unpack("iII", own.getsockopt(socket.SOL_SOCKET, socket.SO_PEERCRED, struct.calcsize("iII")))
-    return int(user)
 
 
 def system_login() -> str:

@@ -5,10 +5,10 @@ from dataclasses import dataclass
 from registry_tools import voice
 from registry_tools.errors import WordsFault
 from registry_tools.office import approvals
-from registry_tools.pairs import settling
 from registry_tools.office.approvals import AskedFor
 from registry_tools.office.office import By, Office
 from registry_tools.store.events import RELEASED, Event
+from registry_tools.texts import settler
 
 
 @dataclass(frozen=True)
@@ -68,7 +68,7 @@ def made_known(office: Office, filed: Event, why: str) -> Released | AskedFor:
 
 def doubt_of(filed: Event) -> str:
     """Why nothing proves the report of a day, in words; nothing, if a proved engine settled it."""
-    engine = settling.engine_named(filed.engine)
+    engine = settler.engine_named(filed.engine)
     if engine is None:
         return "was settled before the journal told by which engine, or by one that it does not name"
     return "" if engine.is_proved else f"was settled by {engine}"

@@ -110,7 +110,7 @@ def standing_of(head: rules.Day, account: rules.Account, year: int, entries: Ent
     first = head.periods[period - 1][0]
     years = range(first, year + 1)
     figure, determined = head.figure(account, year), account.figures.get(year)
-    emitted = sum(account.emissions.get(each, 0) for each in years)
+    emitted = sum([account.emissions.get(each, 0) for each in years])
     have_changed = entries.have_changed(account.number, first, year) if entries else None
     if have_changed is None:
         have_changed = determined is not None and not was_once_right(account, period, determined, emitted)

@@ -6,9 +6,9 @@ from typing import NamedTuple
 from registry_tools.office import approvals, handed
 from registry_tools.office.handed import HandedIn, Item, Part, Taken
 from registry_tools.office.office import Office
-from registry_tools.pairs import settling
 from registry_tools.questions.changes import NEXT
 from registry_tools.store.events import RELEASED, Event
+from registry_tools.texts import settler
 
 FIRST_TEXT = "the first text, with instructions"
 
@@ -57,7 +57,7 @@ def days_told(office: Office) -> Iterator[tuple[Event, str, str]]:
     released = {event.date for event in office.events.all if event.what == RELEASED}
     last = max(released, default=datetime.date.min)
     for filed in reversed(office.events.days):
-        yield filed, str(settling.engine_named(filed.engine) or "not told"), "yes" if filed.date <= last else "no"
+        yield filed, str(settler.engine_named(filed.engine) or "not told"), "yes" if filed.date <= last else "no"
 
 
 def who_and_second(office: Office, who: str, login: str, approved: str) -> str:
