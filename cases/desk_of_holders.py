@@ -3,6 +3,7 @@ folders that differ in what belongs to others give it the same bytes, and an att
 For cases/run-desk."""
 from __future__ import annotations
 
+import html
 import re
 import shutil
 from collections.abc import Iterator
@@ -21,7 +22,7 @@ from registry_tools.office.people import system_login
 WEEK, RULES = TOP / "examples" / "week", TOP / "tools" / "rules.py"
 MONDAY, TUESDAY, WEDNESDAY, THURSDAY = (f"2025-09-{day}" for day in (22, 23, 24, 25))
 PEOPLE = {
-    "anna": "Anna Berg: all", "bert": "Bert Kohl: all", "gerd": "Gerd Pohl: look",
+    "anna": "Anna Berg: all", "bert": "Bert Kohl: all", "gerd": "Gerd Pohl: look", "cora": "Cora Lund: hand in, close",
     "hanna": "Hanna Holt: holder 5501, user 5101", "hugo": "Hugo Holt: holder 5501, user 5102",
     "hedy": "Hedy Holt: holder 5501", "otto": "Otto Ohm: holder 5502, user 5203", "nora": "Nora Nil: holder 4711",
     "ossi": "Ossi Ohm: holder 5502, user 5102",
@@ -419,6 +420,6 @@ def waiting(office: Path) -> list[str]:
 
 def has(answer: desks.Answer, *words: str) -> object:
     """What an answer lacks of these words."""
-    text = re.sub("<[^>]*>", "", answer.text)
+    text = html.unescape(re.sub("<[^>]*>", "", answer.text))
     lacking = [word for word in words if word not in answer.text and word not in text]
     return (lacking, text[-1500:]) if lacking else None

@@ -44,7 +44,7 @@ NOBODY = "nobody yet"
 # The command of each page that asks for a yes.
 COMMANDS = {
     "/hand-in": "hand-in", "/change": "change", "/names": "label", "/close": "close", "/undo": "undo",
-    "/release": "release",
+    "/release": "release", "/correct": "correct",
 }  # fmt: skip
 
 

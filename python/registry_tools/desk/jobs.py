@@ -38,6 +38,8 @@ OUTCOME = "outcome.json"
 PROGRESS, LONGEST_NAME = "\r\033[K", 60
 # Where a command puts files that somebody takes with him; the private folder of a desk, and its lock.
 MADE, PREFIX, LOCK = "made", "day-desk-", "lock"
+# The copies that a command makes for a browser, by its name.
+COPIES = {"db": "days.sqlite", "backup": "registry.sqlite"}
 # The commands whose status says what they found, and not that they did nothing.
 FINDING = ("hand-in", "audit", "try", "status", "send")
 NOTHING = "Nothing was done."
@@ -76,11 +78,17 @@ class Job:
         status = self.status
         if status is None:
             return "At work"
+        if self.asks_yes():
+            return "Nothing is corrected yet. This is what would become of it:"
         if status == 0 or status == FOUND and self.command in FINDING:
             is_audit = self.command == "audit"
             return "Done." if not is_audit else "Something was found." if status else "Nothing was found."
         is_asked_for = self.kind() is Kind.ASKED_FOR
         return "It is asked for, and waits for somebody else." if is_asked_for else NOTHING
+
+    def asks_yes(self) -> bool:
+        """Whether it only showed what a correction would make."""
+        return self.command == "correct" and self.status == FOUND and "--yes" not in self.words
 
     def kind(self) -> Kind:
         """How it ended, as it has told it; one that was killed has done nothing, as far as anybody knows."""

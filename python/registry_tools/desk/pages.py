@@ -13,7 +13,7 @@ from werkzeug.exceptions import NotFound
 from registry_tools import voice
 from registry_tools.calendars.dates import date_of
 from registry_tools.cli.close import compliant_told
-from registry_tools.desk import asks, forms, gate, looks, pictures, shown
+from registry_tools.desk import asks, forms, gate, looks, shown
 from registry_tools.desk.gate import Served
 from registry_tools.desk.reading import Reading
 from registry_tools.desk.shown import asked, number_asked, row_of_taken, show_page, sorted_table
@@ -23,7 +23,7 @@ from registry_tools.office import approvals, approve, handed, release as releasi
 from registry_tools.office.office import Office
 from registry_tools.office.trial import Looked, whys
 from registry_tools.office.waits import waits_of
-from registry_tools.pages import summary
+from registry_tools.pages import pictures, summary
 from registry_tools.pages.beside import item_in_words
 from registry_tools.pages.html import Markup, link, paragraph, tag
 from registry_tools.pages.plan import plan_parts
@@ -306,10 +306,13 @@ def day(served: Served, word: str) -> Any:
     only = asked("only") if asked("only") in OUTCOMES else ""
     log = [row for row in settled.log if only in ("", kind_of(row))]
     rows = [(row.record, record_in_words(row), rules.named(row.instruction), outcome_in_words(row), row) for row in log]
-    count, accounts_of = Counter(kind for row in settled.log for kind in ("", kind_of(row))), settled.accounts_of
+    count = Counter(kind for row in settled.log for kind in ("", kind_of(row)))
+    accounts_of, found = settled.accounts_of, settled.found
 
     def cells(row: Sequence[Any]) -> Sequence[Any]:
-        return *row[:2], accounts_of(row[4]), own.outcome(word, row[0], row[3])
+        outcome = own.outcome(word, row[0], row[3])
+        why = found.get(row[0]) if kind_of(row[4]) == "refused" else None
+        return *row[:2], accounts_of(row[4]), joined_words(outcome, why) if why else outcome
 
     counts = {kind: count[kind] for kind in ("", *OUTCOMES)}
     return show_page(
@@ -338,6 +341,12 @@ def parts_of(settled: Settled, own: Reading) -> Iterator[Markup]:
     yield from (*summary.totals_parts(settled), tag("h2", "Changed by hand"))
     by_hand = own.by_hand(settled.head.date)
     yield from [paragraph("This is the first day.")] if by_hand.rows is None else by_hand_parts(settled, by_hand)
+
+
+def correct_page(served: Served) -> Any:
+    """The form of what is corrected in a settled day that is not released."""
+    days = [row[0] for row in day_rows(served) if row[-1] == "no"]
+    return show_page("correct", "Correct", days=days)
 
 
 def name(served: Served) -> Any:

@@ -86,7 +86,8 @@ def correct(office: Office, by: By, asked: Correct) -> Corrected | Shown | tuple
     or if a reversal would name another record, and a fault if a day can't be closed so: `behind` says if it is a later
     day than the corrected one."""
     if not asked.without and not asked.files:
-        raise WordsFault("nothing to correct: --without RECORD or --with FILE says what is wrong")
+        ways = voice.either("--without RECORD or --with FILE", "a record that is left out, or a file,")
+        raise WordsFault(f"nothing to correct: {ways} says what is wrong")
     with office.changing("correct", by) if asked.yes else office.trying("correct", by):
         must_be_open(office, asked.date, asked.without)
         added = [incoming.read(each) for each in asked.files]
@@ -188,13 +189,14 @@ class Correction:
                 return event, past_day.report.log[record - event.first]
         first, last = self.days[0], self.days[-1]
         there = f"{first.date} has the records {first.first} to {first.next - 1}"
-        raise WordsFault(f"--without {record}: {there}, and the days behind it have them up to {last.next - 1}")
+        said = voice.option("without", record)
+        raise WordsFault(f"{said}: {there}, and the days behind it have them up to {last.next - 1}")
 
     def waited(self, record: int) -> str:
         """That a record waited since an earlier day, and the words by which it is left out of that one."""
         event, logged = self.logged(record)
         row = logged.instruction.row
-        said = f"--without {record}: it waited since an earlier day, which it was handed in for: {row}"
+        said = f"{voice.option('without', record)}: it waited since an earlier day, which it was handed in for: {row}"
         for earlier in reversed([own for own in self.all_days if own.date < event.date]):
             _, report = past.read(self.office.store.pair_of(earlier))
             waited = [own.record for own in report.log if own.name == NOT_DUE and own.instruction.row == row]

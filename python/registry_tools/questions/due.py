@@ -71,11 +71,20 @@ def folded(found: list[Due]) -> list[Due]:
 def due_until(office: Office, until: datetime.date) -> list[Due]:
     """All that is due from the last settled day up to a date, by rising date. Raises WordsFault if no day is settled,
     and FileFault if a text of it can't be read."""
-    day, report = composing.last_pair(office)
+    return with_calendar(office, until, of_days(office, *composing.last_pair(office)))
+
+
+def with_calendar(office: Office, until: datetime.date, known: list[Due]) -> list[Due]:
+    """The same, of what `of_days` tells and of the calendar."""
+    every = (own for found in (known, of_calendar(office)) for own in found if own.date <= until)
+    return sorted(every, key=lambda own: (own.date, own.what, own.account or 0))
+
+
+def of_days(office: Office, day: DayText, report: Report) -> list[Due]:
+    """What is due whatever is handed in: it is told by the last day, its report, what waits and the deadlines."""
     names = office.names()
     known = deadlines(office.settings.due, day, report, names), of_rows(day, report, names), waiting(office, names)
-    every = (own for found in (*known, of_calendar(office)) for own in found if own.date <= until)
-    return sorted(every, key=lambda own: (own.date, own.what, own.account or 0))
+    return [own for found in known for own in found]
 
 
 def deadlines(
