@@ -30,13 +30,13 @@ import days  # noqa: E402
 from registry_tools import layout, main as commands  # noqa: E402
 from registry_tools.office import approvals, folder, handed, people  # noqa: E402
 from registry_tools.office.office import Office  # noqa: E402
-from registry_tools.pairs import settling  # noqa: E402
 from registry_tools.second import rules  # noqa: E402
 from registry_tools.store import daybook, past  # noqa: E402
 from registry_tools.store.events import APPROVED, FILED, HANDED, Event  # noqa: E402
 from registry_tools.store.past import PastDay  # noqa: E402
 from registry_tools.store.texts import sum_of  # noqa: E402
 from registry_tools.texts import pending  # noqa: E402
+from registry_tools.texts.settler import SECOND_ANSWER  # noqa: E402
 
 FIRST_DAY, CALENDAR_BEGIN, DECEMBER = datetime.date(2025, 1, 2), datetime.date(2024, 12, 2), (12, 31)
 ADMINISTRATORS = 901, 902
@@ -198,7 +198,7 @@ class Maker:
             dates = [date for date in self.dates if date not in known]
             assert last is not None
             number, rows = accounts_of(office.store.texts.get(last.report))
-            self.before = PastDay(*past.read(past.pair_of(office.store, last)), None, [])
+            self.before = PastDay(*past.read(office.store.pair_of(last)), None, [])
             book, begun = Book(rows), list[Made]()
             for place, date in enumerate(dates, 1):
                 do = text_of(instructions(date, self.accounts, self.count))
@@ -236,11 +236,11 @@ class Maker:
         waits = [store.texts.put(pending.text_of([], pending.Made(date, own)).encode()) for own in (first, behind)]
         event = store.add(Event(
             FILED, at=f"{date}T17:00:00Z", login=closer, who=closer, date=date, first=first, next=behind, text=day_sum,
-            report=report_sum, waiting=waits[0], waits=waits[1], engine=settling.SECOND_ANSWER.row(), approved=second,
+            report=report_sum, waiting=waits[0], waits=waits[1], engine=SECOND_ANSWER.row(), approved=second,
             people=office.people.sum() if second else "",
         ))  # fmt: skip
         before = self.before
-        read = past.read(past.pair_of(store, event), before)
+        read = past.read(store.pair_of(event), before)
         self.before = PastDay(*read, before.report, before.day.heading)
         daybook.add_day(store.db, self.before, (day_sum, report_sum))
 

@@ -21,7 +21,8 @@ SORTED = {
 }
 PAGES = (
     "/", "/hand-in", "/next", "/next?only=refused", "/change?of=rules", "/change?of=new", "/close", "/undo", "/release",
-    "/names", "/days", "/month", "/journal", "/audit", "/send", "/find.csv?refused=", "/find.xlsx?refused=",
+    "/names", "/days", "/month", "/journal", "/audit", "/send",
+    "/correct", "/office", "/office/anchor.csv", "/find.csv?refused=", "/find.xlsx?refused=",
 )  # fmt: skip
 Told = tuple[str, object]
 

@@ -16,7 +16,8 @@ from harness import TOP, Said, differs
 from offices import must_do
 from sample_days import MONDAY_OF_TWO_PERIODS
 
-from registry_tools.desk.jobs import Job, Jobs, Started
+from registry_tools.desk.jobs import Job, Jobs
+from registry_tools.door.commands import Started
 from registry_tools.desk.words import label
 from registry_tools.texts.checks import IN_FORMS
 

@@ -20,10 +20,11 @@ from offices import must_do, must_do_either
 from second_login import desk as named, with_lines
 from spreadsheets import SHEET_PART, replace_in, write_kept
 
-from registry_tools.desk import forms, pictures
-from registry_tools.desk.door import Links
-from registry_tools.desk.heads import SECRET_HEADER
-from registry_tools.desk.kept import KEPT, Kept
+from registry_tools.desk import forms
+from registry_tools.door.door import Links
+from registry_tools.door.heads import SECRET_HEADER
+from registry_tools.door.kept import KEPT, Kept
+from registry_tools.pages import pictures
 
 WORKBOOK = "instructions.xlsx"
 

@@ -18,8 +18,9 @@ from reread import FORBIDDEN, Attributes, Page, named
 
 from registry_tools.desk import app
 from registry_tools.desk.gate import Served
-from registry_tools.desk.heads import SECRET_HEADER, Proxy
-from registry_tools.desk.jobs import COMMAND, Started
+from registry_tools.desk.jobs import COMMAND
+from registry_tools.door.commands import Started
+from registry_tools.door.heads import SECRET_HEADER, Proxy
 from registry_tools.store import file
 from registry_tools.store.events import LABELLED, MAY_LACK, Event, now
 from registry_tools.store.file import Store
@@ -302,7 +303,6 @@ def without_times(office: Path) -> dict[str, object]:
         for own in told:
             # (a text of names has times, and what was approved has the line of an event)
             own.update(dict.fromkeys((*MAY_LACK, "sum"), None))
-            own.pop("values", None)
         found |= {f"event {own['id']}": own for own in told}
         for (name,) in store.db.execute("SELECT name FROM sqlite_schema WHERE type = 'table'").fetchall():
             if name not in ("events", "texts"):

@@ -20,7 +20,7 @@ from harness import MOST_SECONDS, PYTHON, TOP, differs
 from logins import Login
 
 from registry_tools import frames, tables
-from registry_tools.desk.commands import MOST_AT_ONCE
+from registry_tools.door.commands import MOST_AT_ONCE
 
 if TYPE_CHECKING:
     from door_trials import SocketDesk, Visitor

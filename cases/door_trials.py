@@ -20,6 +20,7 @@ from pathlib import Path
 from typing import Any
 
 import door_commands
+import door_holders
 import door_machines
 import door_week
 import logins
@@ -28,9 +29,9 @@ from harness import MOST_SECONDS, PYTHON, TOP, LeftOut, differs
 from logins import Login
 from real_desk import Answer, File, form_of
 
-from registry_tools.desk import door
-from registry_tools.desk.commands import MOST_OPEN
-from registry_tools.desk.door import MOST_LINKS, Links, link_name
+from registry_tools.door import door
+from registry_tools.door.commands import MOST_OPEN
+from registry_tools.door.door import MOST_LINKS, Links, link_name
 
 Told = Iterator[tuple[str, object]]
 WEEK, RULES = TOP / "examples" / "week", TOP / "tools" / "rules.py"
@@ -243,7 +244,8 @@ def link_trials(mock: Any) -> Told:
 def all_trials(work: Path, leave_out: Callable[[str, LeftOut], None], many: int) -> Told:
     """All that is tried by several logins. `leave_out` hears what can't be tried; `many` rows hands in each of ten who
     do so at once."""
-    with logins.made("desk", "anna", "bert", "look", "www", "nobody") as people:
+    with logins.made("desk", "anna", "bert", "look", "www", "nobody", "hold") as made:
+        *people, holder = made
         owner, anna, bert, looks, proxy, stranger = people
         home, place = work / "home", work / "place"
         for own in (home, place):
@@ -251,7 +253,7 @@ def all_trials(work: Path, leave_out: Callable[[str, LeftOut], None], many: int)
             os.chown(own, owner.user, owner.group)
             own.chmod(0o755)
         office, path = home / "office", place / "desk.sock"
-        yield from begin_trials(owner, people_of(owner, anna, bert, looks, proxy), office, place)
+        yield from begin_trials(owner, people_of(owner, anna, bert, looks, proxy, holder), office, place)
         desk = SocketDesk(owner, office, path, work / "log")
         try:
             yield from stranger_trials(path, anna, stranger, looks)
@@ -272,6 +274,8 @@ def all_trials(work: Path, leave_out: Callable[[str, LeftOut], None], many: int)
             programs[2].headers = {HEADER: anna.name}
             yield from door_machines.machine_trials(programs, Visitor(anna, path).came_in())
             yield from door_machines.client_trials(path, work, anna, looks)
+            of_holder = [Visitor(holder, path).came_in(), named_by(proxy, path, holder)]
+            yield from door_holders.holder_trials(work, holder, path, of_holder, Visitor(holder, at_links))
             for what, trials in (
                 ("nginx", real_servers.nginx_trials(work, path, proxy, [anna, looks, stranger])),
                 ("ssh", real_servers.ssh_trials(work, path, [anna, looks, stranger])),
@@ -330,10 +334,11 @@ def settings_of(office: Path, people: dict[str, str], waits: str = "change") -> 
 
 
 def people_of(*people: Login) -> dict[str, str]:
-    owner, anna, bert, looks, proxy = people
+    owner, anna, bert, looks, proxy, holder = people
     return {
         owner.name: "The desk: proxy", anna.name: "Anna Berg: all", bert.name: "Bert Kohl: all",
         looks.name: "Gerd Pohl: look", proxy.name: "The web server: proxy",
+        holder.name: "Hanna Holt: holder 5501, user 5101",
     }  # fmt: skip
 
 

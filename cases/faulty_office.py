@@ -17,8 +17,10 @@ from offices import (
     FIRST, chained_anew, events_of, must_do, must_do_either, new_office, text_of, told, unchanged, without_triggers,
 )  # fmt: skip
 
+from registry_tools.office import close as closing
 from registry_tools.pairs import settling
 from registry_tools.second import rules
+from registry_tools.texts import settler
 from registry_tools.texts.day_text import read_day
 from registry_tools.calendars.due_days import due_day_after
 
@@ -334,7 +336,7 @@ def sent_trials(work: Path) -> Iterator[Trial]:
     yield "send --release of what nothing proves", unchanged(office, 2, doubt, *letters, work / "sent-2")
     why = ["--why", "a letter", *own]
     must_do(["label", "holder", "11", "Stahl", *why], ["label", "holder", "12", "Handel", *why])
-    with mock.patch.object(settling, "SECOND_ANSWER", settling.Engine("program", "1.0", COMMIT, settling.PROVED)):
+    with mock.patch.object(closing, "SECOND_ANSWER", settler.Engine("program", "1.0", COMMIT, settler.PROVED)):
         must_do([*CLOSE, "2025-04-02", *own])
     yield "audit of it", told(0, [": 0 differences"], "audit", *own)
     yield "send --release into a folder with files", told(3, [" a folder with files in it"], *letters, work)

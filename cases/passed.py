@@ -10,7 +10,8 @@ from drawing import drawn_rows, text_of
 
 from registry_tools import tables
 from registry_tools.second import rules
-from registry_tools.second.passing import PASSING, Passing
+from registry_tools.second.checks import Passing
+from registry_tools.second.passing import PASSING
 
 DAYS = 150
 FIELDS = {act.word: [name.lower() for name in act.fields.split()] for act in tables.ACTS}

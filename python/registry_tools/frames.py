@@ -91,3 +91,9 @@ def heard(content: bytes) -> Any:
         return json.loads(content)
     except (ValueError, RecursionError):
         raise Broken("words that are none") from None
+
+
+def user_at(own: socket.socket) -> int:
+    """The user of the system at the other end of a connection."""
+    _, user, _ = struct.unpack("iII", own.getsockopt(socket.SOL_SOCKET, socket.SO_PEERCRED, struct.calcsize("iII")))
+    return int(user)

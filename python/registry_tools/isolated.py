@@ -7,7 +7,7 @@ from pathlib import Path
 PACKAGE = Path(__file__).resolve().parents[1]
 START = "import sys; place = sys.argv.pop(1); place in sys.path or sys.path.insert(0, place)"
 BEGIN = "from registry_tools import main; sys.exit(main.begin(sys.argv[1], sys.argv[2:]))"
-ANSWER = "import runpy; runpy.run_module('registry_tools.desk.answering', run_name='__main__')"
+ANSWER = "import runpy; runpy.run_module('registry_tools.door.answering', run_name='__main__')"
 
 
 def command_by(python: str = sys.executable) -> list[str]:
@@ -16,6 +16,6 @@ def command_by(python: str = sys.executable) -> list[str]:
 
 
 def answer_by(python: str = sys.executable) -> list[str]:
-    """The words that start a process that carries out a command of somebody elsewhere (desk/answering.py); behind them
+    """The words that start a process that carries out a command of somebody elsewhere (door/answering.py); behind them
     stand its own words."""
     return [python, "-IB", "-c", f"{START}; {ANSWER}", str(PACKAGE)]

@@ -52,12 +52,13 @@ class Desk(Terminal):
         "hand-in": "Hand in", "take-back": "The next day", "try": "The next day", "change": "Change", "close": "Close",
         "undo": "Undo", "release": "Release", "status": "Today", "approve": "Today", "audit": "Audit", "send": "Send",
         "next": "The next day", "find": "Find", "history": "Accounts", "compliance": "Compliance", "month": "Months",
-        "label": "Names", "form": "Hand in",
+        "label": "Names", "form": "Hand in", "correct": "Correct", "db": "The office", "backup": "The office",
     }  # fmt: skip
     # What the field of a form is called that says what an option says.
     fields = {
         "date": "the day", "day": "the day", "from": "the first day", "to": "the last day", "who": "Your name",
-        "why": "Why", "second": "by the second answer", "yes": "a yes",
+        "why": "Why", "second": "by the second answer", "yes": "a yes", "without": "records that are left out",
+        "with": "what is handed in as well",
     }  # fmt: skip
 
     def __init__(self, folder: Path | None = None, aside: Path | None = None) -> None:

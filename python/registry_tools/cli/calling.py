@@ -11,79 +11,24 @@ import sys
 from collections.abc import Iterator
 from pathlib import PurePosixPath
 from types import FrameType
-from typing import BinaryIO, NamedTuple
+from typing import BinaryIO
 
 from registry_tools import frames, streams, tables
 from registry_tools.elsewhere import Grown, NewPlace, Source, Target
-from registry_tools.errors import FILE, FileFault, WordsFault, shown
+from registry_tools.errors import FILE, WordsFault, shown
 from registry_tools.frames import Broken
-from registry_tools.layout import SETTINGS, STORE
-from registry_tools.office import folder, people, settings
+from registry_tools.office import people
+from registry_tools.cli.desks import Desk
 from registry_tools.cli.options import words_of_files
 from registry_tools.output import NewFile, NewFolder, must_be_writable
 from registry_tools.progress import progress
 from registry_tools.texts.rows import named_bytes
 
-# The variable that names the socket of a desk for whoever names none, and no folder.
-VARIABLE = "REGISTRY_DESK"
 # Behind the path of a desk's socket, that at which commands are given.
 COMMANDS = ".day"
-# What no desk does, and the way out.
-NOT_THERE = {
-    "desk": "a desk is started where its folder lies", "link": "./day link --socket PATH prints a link",
-    "init": "whoever keeps the folder makes it where it lies", "upgrade": "whoever keeps the folder upgrades it there",
-    "backup": "whoever keeps the folder copies its file there; ./day unpack gives all texts",
-}  # fmt: skip
-# Of these a folder is named, or made, by themselves.
-BY_THEMSELVES = ("desk", "link", "init", "upgrade")
 # So many bytes may come at a time.
 MOST_BYTES = 1 << 34
 SIGNALS = (signal.SIGINT, signal.SIGTERM, signal.SIGHUP)
-
-
-class Desk(NamedTuple):
-    """Where a desk answers, and whose it has to be, if that is known."""
-
-    path: str
-    owner: int | None = None
-
-
-def desk_for(name: str, words: argparse.Namespace, named: str | None) -> Desk | None:
-    """The desk that carries a command out: the named one, or the one that office.ini of the named folder tells to
-    whoever may not write there, or that of the variable; nothing, if it is done here. Raises WordsFault."""
-    own = getattr(words, "office", None) or getattr(words, "_office", None)
-    if named is not None:
-        if name in NOT_THERE:
-            raise WordsFault(f"--desk: {streams.in_help(NOT_THERE[name])}")
-        if own is not None:
-            raise WordsFault("--desk stands in place of --office")
-        return Desk(named) if takes_folder(words) else None
-    if name in BY_THEMSELVES or not takes_folder(words):
-        return None
-    is_in_folder = own is None and os.path.isfile(SETTINGS)
-    known = None if own is not None or is_in_folder else os.environ.get(VARIABLE)
-    found = Desk(known) if known else desk_of_folder(own)
-    if found and name in NOT_THERE:
-        raise WordsFault(f"by the desk at {found.path}: {streams.in_help(NOT_THERE[name])}")
-    return found
-
-
-def takes_folder(words: argparse.Namespace) -> bool:
-    """Whether a command is one of a folder, by its words."""
-    is_of_folder = hasattr(words, "office") and not getattr(words, "pairs", None)
-    return is_of_folder or getattr(words, "_dates", None) is not None
-
-
-def desk_of_folder(word: str | None) -> Desk | None:
-    """The desk that office.ini tells, if this login may not write the folder by itself."""
-    # (what is wrong with the folder, the command tells)
-    with contextlib.suppress(FileFault, WordsFault, OSError):
-        path = folder.folder_of(word)
-        if os.access(path / STORE, os.R_OK | os.W_OK):
-            return None
-        told = settings.read(path / SETTINGS).desk
-        return Desk(told, os.stat(path).st_uid) if told else None
-    return None
 
 
 def ask(desk: Desk, name: str, arguments: list[str], words: argparse.Namespace) -> int:
@@ -135,7 +80,7 @@ def connected(desk: Desk) -> Iterator[socket.socket]:
             own.connect(f"{desk.path}{COMMANDS}")
         except (OSError, ValueError) as error:
             raise WordsFault(f"the desk at {desk.path}: nobody answers there: {shown(str(error))}") from None
-        there = people.user_at(own)
+        there = frames.user_at(own)
         if desk.owner is not None and there not in (desk.owner, 0):
             raise WordsFault(f"the desk at {desk.path}: {people.login_of(there)} answers there, and not its owner")
         yield own

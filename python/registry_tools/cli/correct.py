@@ -17,8 +17,9 @@ exit status: 0 if it is done, 1 if --yes or another login is still needed.
 """
 import argparse
 
+from registry_tools import voice
 from registry_tools.calendars import dates
-from registry_tools.cli import papers, words
+from registry_tools.cli import files, papers, words
 from registry_tools.elsewhere import Source
 from registry_tools.errors import FOUND, Fault
 from registry_tools.office import folder
@@ -39,6 +40,7 @@ def add_words(parser: argparse.ArgumentParser) -> None:
     parser.add_argument("--verify", action="store_true", help="work out all accounts once more")
     parser.add_argument("--second", action="store_true", help="settle by the second answer, without the program")
     parser.add_argument("--yes", action="store_true", help="make it count")
+    files.add_named(parser)
     words.add_office(parser)
     words.add_who(parser)
     words.add_why(parser)
@@ -47,8 +49,8 @@ def add_words(parser: argparse.ArgumentParser) -> None:
 def run(said: argparse.Namespace) -> int:
     """Runs the command, and answers the exit status."""
     why, date = words.one_line("why", said.why), dates.date_of("DATE", said.date)
-    without, files = tuple(dict.fromkeys(said.without)), words.given(said.files)
-    asked = Correct(date, why, without, files, said.second, said.verify, said.yes)
+    without, given = tuple(dict.fromkeys(said.without)), files.given(said.files, said.called)
+    asked = Correct(date, why, without, given, said.second, said.verify, said.yes)
     with folder.opened(said.office) as office:
         try:
             came = correct(office, words.by(said, office), asked)
@@ -66,7 +68,7 @@ def run(said: argparse.Namespace) -> int:
             return 0
     if isinstance(came, Shown):
         tell(came)
-        print(f"{date} would be corrected so; nothing is, without --yes")
+        print(f"{date} would be corrected so; nothing is, without {voice.option('yes')}")
         return FOUND
     shown, asked_for = came
     tell(shown)

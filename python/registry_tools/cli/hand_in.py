@@ -14,7 +14,7 @@ exit status: 0 if nothing of it would be refused, 1 if something would.
 """
 import argparse
 
-from registry_tools.cli import importing, trial, words
+from registry_tools.cli import files, importing, trial, words
 from registry_tools.elsewhere import Source
 from registry_tools.office import folder, hand_in, handed
 from registry_tools.office.hand_in import HandIn
@@ -27,15 +27,15 @@ EXAMPLE = "./day hand-in examples/week/tuesday-do.csv examples/week/tuesday-work
 
 def add_words(parser: argparse.ArgumentParser) -> None:
     """Tells a parser the words of the command."""
-    files = "do rows, work rows or account blocks, or a table"
-    parser.add_argument("files", metavar="FILE", type=Source, nargs="+", help=files)
+    what = "do rows, work rows or account blocks, or a table"
+    parser.add_argument("files", metavar="FILE", type=Source, nargs="+", help=what)
     again = "a row that is meant once more, by its line, or by the place of the one that was handed in"
     parser.add_argument("--again", metavar="FILE:LINE|PLACE", nargs=1, default=[], help=again)
     kinds = parser.add_mutually_exclusive_group()
     kinds.add_argument("--instructions", action="store_true", help="the rows of a table are instructions")
     kinds.add_argument("--accounts", action="store_true", help="the rows of a table are accounts, as with a column no")
     importing.add_forms(parser)
-    words.add_named(parser)
+    files.add_named(parser)
     words.add_office(parser)
     words.add_who(parser)
 
@@ -44,7 +44,7 @@ def run(said: argparse.Namespace) -> int:
     """Runs the command, and answers the exit status."""
     are_accounts = said.accounts if said.accounts or said.instructions else None
     forms = Forms(read_mapping(said.mapping), said.dates, are_accounts)
-    asked = HandIn(words.given(said.files, said.called), tuple(said.again), forms)
+    asked = HandIn(files.given(said.files, said.called), tuple(said.again), forms)
     with folder.opened(said.office) as office:
         added = hand_in.hand_in(office, words.by(said, office), asked)
     for part in added.parts:

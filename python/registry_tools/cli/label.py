@@ -16,14 +16,19 @@ import argparse
 from collections.abc import Iterator
 
 from registry_tools import showing, tables
-from registry_tools.cli import answers, words
+from registry_tools.cli import answers, files, words
 from registry_tools.elsewhere import Source
-from registry_tools.errors import WordsFault
+from registry_tools.errors import FileFault, WordsFault, shown
 from registry_tools.notes import first_of
 from registry_tools.office import folder, label
+from registry_tools.office.incoming import Given, TableFault, text_handed_in
+from registry_tools.office.label import MOST_TOLD, Named, one_name
+from registry_tools.sheets import importing, mapping as mappings, sheets
+from registry_tools.sheets.mapping import Mapping
+from registry_tools.sheets.table import Table
 from registry_tools.texts import labels
-from registry_tools.office.label import MOST_TOLD, Named, names_in, one_name
-from registry_tools.texts.labels import Label
+from registry_tools.texts.labels import COLUMNS, KINDS, Label
+from registry_tools.texts.rows import packed_bytes_of, rows_of_text
 
 EXAMPLE = './day label holder 5501 "Kalkwerk Nord" --why "a letter" --office out/office'
 LISTED = tables.COLUMNS["label"]
@@ -37,7 +42,7 @@ def add_words(parser: argparse.ArgumentParser) -> None:
     ways.add_argument("--remove", action="store_true", help="it has no name any more")
     ways.add_argument("--file", metavar="FILE", type=Source, help="the names of a file")
     parser.add_argument("--mapping", metavar="FILE", type=Source, help="the columns and words of a table of others")
-    words.add_named(parser)
+    files.add_named(parser)
     words.add_office(parser)
     words.add_who(parser)
     parser.add_argument("--why", metavar="WORDS", help="the reason, which is kept: a change needs it")
@@ -89,11 +94,52 @@ def cells_of(said: argparse.Namespace, own: Label) -> list[showing.Cell]:
 def asked_of(said: argparse.Namespace) -> Iterator[Label]:
     """The names that the words ask for, or those of the file."""
     if said.file is not None:
-        (own,) = words.given([said.file], said.called)
+        (own,) = files.given([said.file], said.called)
         yield from names_in(own, said.mapping)
     else:
         kind, number, *name = said.named
         yield one_name(kind, number, " ".join(name), said.remove)
+
+
+def names_in(own: Given, mapping: str | None) -> Iterator[Label]:
+    """The names of a file: rows as labels.csv has them, or a table."""
+    path, content = own.told, packed_bytes_of(own.path)
+    start = content[: len(max(KINDS, key=len)) + 4].decode("utf-8-sig", "replace")
+    if mapping is None and start.lstrip().startswith(tuple(f"{kind}," for kind in KINDS)):
+        source = rows_of_text(path, text_handed_in(own, content).decode("utf-8-sig", "surrogateescape"))
+        for place, named in enumerate(labels.rows_in(source)):
+            tidy = named._replace(name=labels.tidy(named.name))
+            found, expected = label.wrong_part(tidy, may_lack=True)
+            if expected:
+                raise source.fault(place, "NAME", shown(found), expected)
+            yield tidy
+        return
+    known = mappings.read(mapping, COLUMNS) if mapping is not None else Mapping()
+    table = Table(sheets.read_content(path, content), COLUMNS, None, known)
+    made = [*importing.found_in(names_of_table(table))]
+    wrong = [own for own in made if isinstance(own, FileFault)]
+    if wrong:
+        raise TableFault(path, wrong, "no name was changed")
+    yield from (own for own in made if isinstance(own, Label))
+
+
+def names_of_table(table: Table) -> Iterator[Label | FileFault]:
+    """The name of each row, or what is wrong with it."""
+    wrong = [*table.wrong_heading()]
+    yield from wrong
+    there: dict[tuple[str, str], int] = {}
+    for number, own in () if wrong else table.rows():
+        said = table.with_always(own)
+        named = Label(said.get("kind", ""), said.get("number", ""), labels.tidy(said.get("name", "")))
+        found, expected = label.wrong_part(named, may_lack="name" in table.columns)
+        name = next((name for name in COLUMNS if said.get(name, "") == found), "name")
+        first = there.setdefault(named[:2], number)
+        if expected:
+            yield table.fault(number, name, shown(found), expected)
+        elif first != number:
+            yield table.fault(number, "number", shown(named.number), f"another {named.kind} than in row {first + 1}")
+        else:
+            yield named
 
 
 def lines_of(named: Named) -> Iterator[str]:

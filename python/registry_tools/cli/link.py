@@ -14,7 +14,7 @@ import os
 import re
 import socket
 
-from registry_tools.cli.calling import VARIABLE
+from registry_tools.cli.desks import VARIABLE
 from registry_tools.errors import WordsFault, shown
 
 EXAMPLE = "./day link --socket /run/registry/desk.sock"

@@ -15,7 +15,7 @@ from typing import Protocol, cast
 
 from registry_tools import outcomes, steps, streams, tables, voice
 from registry_tools.errors import FILE, NOT_WRITTEN, Fault, FileFault
-from registry_tools.cli import calling, named_day
+from registry_tools.cli import desks, named_day
 from registry_tools.cli.options import Words, look_at_files
 from registry_tools.progress import progress
 
@@ -151,10 +151,13 @@ def run(name: str, arguments: list[str], desk: str | None = None) -> int:
 
     def given() -> int:
         words = parser_of(name, module, named_day.is_named(name, arguments)).parse_args(arguments)
-        there = calling.desk_for(name, words, desk)
-        if there is not None:
+        carrier = desks.desk_for(name, words, desk)
+        if carrier is not None:
+            # (most commands go to no desk)
+            from registry_tools.cli import calling
+
             look_at_files(words)
-            return calling.ask(there, name, arguments, words)
+            return calling.ask(carrier, name, arguments, words)
         with named_day.looked_up(name, words):
             look_at_files(words)
             return module.run(words)

@@ -11,11 +11,10 @@ from typing import Any
 
 from registry_tools.calendars.dates import DATE, date_of, is_date
 from registry_tools.errors import Fault, WordsFault
-from registry_tools.office import folder, handed
+from registry_tools.office import folder
 from registry_tools.office.office import Office
 from registry_tools.cli.options import A_DATE, Given, Words
 from registry_tools.store.events import Event
-from registry_tools.store.past import kept, pair_of
 
 # The commands that take them, and what each takes of a day.
 PAIR, REPORTS, TEXT = "pair", "reports", "text"
@@ -105,10 +104,10 @@ def looked_up(name: str, said: argparse.Namespace) -> Iterator[None]:
 def look_up(name: str, office: Office, named: Any, said: argparse.Namespace) -> None:
     """Does so with the days of an open folder."""
     if TAKES[name] == REPORTS:
-        pairs = [pair_of(office.store, day_named(office, date)) for date in named]
+        pairs = [office.store.pair_of(day_named(office, date)) for date in named]
         said.days, said.reports = [pair.day for pair in pairs], [pair.report for pair in pairs]
         return
-    pair = pair_of(office.store, day_named(office, named))
+    pair = office.store.pair_of(day_named(office, named))
     said.day = pair.day
     if TAKES[name] == PAIR:
         said.report = pair.report
@@ -123,14 +122,15 @@ def look_up_more(office: Office, date: str, said: argparse.Namespace) -> None:
     who changed something."""
     day = day_named(office, date)
     before = [event for event in office.store.events.days if event.date < day.date]
-    said.pending = said.pending or kept(office.store, day, "waiting")
+    said.pending = said.pending or office.store.kept(day, "waiting")
     if not said.by_hand:
         # (most commands make no page)
+        from registry_tools.office import handed
         from registry_tools.pages.settled import told_by
 
         said.told = told_by(handed.for_a_day(office.store, day).items(handed.CHANGES, handed.EDITS))
     if before and not said.history and not said.before:
-        own = pair_of(office.store, before[-1])
+        own = office.store.pair_of(before[-1])
         said.before = [own.day, own.report]
 
 

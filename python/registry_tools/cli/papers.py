@@ -36,7 +36,7 @@ def make_papers(office: Office, filed: Event) -> None:
     place = folder_of(office, filed.date)
     shutil.rmtree(place, ignore_errors=True)
     place.mkdir(parents=True)
-    pair = past.pair_of(office.store, filed)
+    pair = office.store.pair_of(filed)
     if wanted.makes_statements:
         statements.make(*past.read(pair), place / STATEMENTS, None, False)
     if wanted.makes_pages:
@@ -52,12 +52,12 @@ def make_pages(office: Office, filed: Event, place: Path) -> None:
     from registry_tools.pages.settled import told_by
 
     store = office.store
-    pair, earlier = past.pair_of(store, filed), [own for own in store.events.days if own.date < filed.date]
-    before = past.pair_of(store, earlier[-1]) if earlier else None
+    pair, earlier = store.pair_of(filed), [own for own in store.events.days if own.date < filed.date]
+    before = store.pair_of(earlier[-1]) if earlier else None
     told = told_by(handed.for_a_day(store, filed).items(handed.CHANGES, handed.EDITS))
     own = Page(
         pair.day, pair.report, before=(before.day, before.report) if before else None,
-        pending=past.kept(store, filed, "waiting"), told=told,
+        pending=store.kept(filed, "waiting"), told=told,
     )  # fmt: skip
     page.make(place, own)
 

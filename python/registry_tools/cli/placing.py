@@ -5,7 +5,7 @@ import errno
 from dataclasses import dataclass
 
 from registry_tools.cli import main, named_day
-from registry_tools.cli.calling import NOT_THERE
+from registry_tools.cli.desks import NOT_THERE
 from registry_tools.cli.options import words_of_files
 from registry_tools.elsewhere import Caller, Elsewhere, FileWord, Program
 from registry_tools.errors import WordsFault

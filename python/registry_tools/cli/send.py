@@ -33,7 +33,6 @@ from registry_tools.pages import send
 from registry_tools.pages.send import Send, Sent
 from registry_tools.questions import days
 from registry_tools.store.events import HEAD_DIGITS, Event
-from registry_tools.store.past import kept
 
 EXAMPLE = "./day send out/sent --day 2025-09-24 --holder 5502 --office out/office"
 
@@ -95,7 +94,7 @@ def of_folder(said: argparse.Namespace) -> tuple[Sent, int]:
         wanted = send_of(said, own)
         day = office.events.day_of(wanted.end)
         assert day is not None  # (it is one of the dates)
-        settings, waiting = office.settings, kept(office.store, day, "waiting")
+        settings, waiting = office.settings, office.store.kept(day, "waiting")
         wanted = replace(wanted, pending=waiting, sender=settings.letters_from, due=settings.due)
         names = office.names() if said.labels is None else labels.read(said.labels)
         by, is_released = words.by(said, office), office.events.is_released(day)

@@ -4,15 +4,13 @@ import contextlib
 import getpass
 import os
 import sys
-from collections.abc import Sequence
 from dataclasses import replace
 
 from registry_tools import outcomes, voice
-from registry_tools.errors import FOUND, WordsFault
+from registry_tools.errors import FOUND
 from registry_tools.notes import LOOK
 from registry_tools.office.approvals import AskedFor
 from registry_tools.office.folder import WHERE
-from registry_tools.office.incoming import Given
 from registry_tools.office.office import By, Office, by_of
 from registry_tools.office.people import People, one_line as one_line
 from registry_tools.store import events
@@ -61,19 +59,6 @@ def by(said: argparse.Namespace, office: Office | None) -> By:
         to_errors(f"{LOOK}: {clock}: set it right, or what is done now seems to have been done earlier")
     known = office.people if office is not None else People()
     return replace(by_of(known, said.who, said.whom, said.seen), shown=said.shown)
-
-
-def add_named(parser: argparse.ArgumentParser) -> None:
-    """The option by which a desk says how a file that it keeps is called: once for each file, in their order."""
-    parser.add_argument("--named", dest="called", metavar="NAME", nargs=1, default=[], help=argparse.SUPPRESS)
-
-
-def given(paths: Sequence[str], named: Sequence[str] = ()) -> tuple[Given, ...]:
-    """Files with the names by which they are called, if the words say some. Raises WordsFault if these are fewer or
-    more."""
-    if named and len(named) != len(paths):
-        raise WordsFault(f"--named stands {len(named)} times, and there are {len(paths)} files")
-    return tuple(Given(path, name) for path, name in zip(paths, named or [""] * len(paths)))
 
 
 def tell_asked_for(asked: AskedFor) -> int:

@@ -13,11 +13,14 @@ from werkzeug.exceptions import HTTPException, NotFound, RequestEntityTooLarge
 from werkzeug.wrappers import Response
 
 from registry_tools import voice
-from registry_tools.desk import asks, coming, gate, heads, machines, pages, posts, questions, search, shown, words
+from registry_tools.desk import (
+    asks, coming, gate, machines, own, pages, posts, questions, search, settings_page, shown, words,
+)  # fmt: skip
 from registry_tools.desk.gate import Served
+from registry_tools.door import heads
 from registry_tools.errors import Fault, FileFault
 from registry_tools.pages import beside, html
-from registry_tools.pages.rulebook import FORMATS, RULES
+from registry_tools.pages.rulebook import FORMATS, RULES, document_parts
 from registry_tools.pages.settled import long_date
 from registry_tools.second import faults
 from registry_tools.sheets import limits
@@ -30,13 +33,13 @@ GROUPS = {
     "The day": {"/": "Today", "/hand-in": "Hand in", "/next": "The next day", "/change": "Change", "/close": "Close"},
     "The registry": {"/accounts": "Accounts", "/find": "Find", "/days": "Days", "/month": "Months"},
     "Duties": {"/compliance": "Compliance", "/due": "Due", "/send": "Send"},
-    "The folder": {"/names": "Names", "/journal": "Journal", "/audit": "Audit"},
+    "The folder": {"/names": "Names", "/journal": "Journal", "/audit": "Audit", "/office": "The office"},
 }
 SECTIONS = {path: name for group in GROUPS.values() for path, name in group.items()}
 # What tries a change, and takes it back: it is of no moment before.
 OF_TRIALS, LOOK = {"/undo"}, "/look/"
 # What a desk that only looks has no use for.
-OF_CHANGES = {"/hand-in", "/change", "/close"}
+OF_CHANGES = {"/hand-in", "/change", "/close", "/office"}
 # What is said of an address that is none.
 OTHER = {404: "No page of this desk has this address."}
 # As what a table is had, besides on its page.
@@ -44,7 +47,7 @@ FILES = "<any(csv, xlsx, json):kind>"
 GET: dict[str, Callable[..., Any]] = {
     "/": pages.today, "/hand-in": pages.hand_in, "/next": pages.next_day, "/change": pages.change,
     "/close": pages.close, "/days": pages.days, "/days/<string(length=10):word>": pages.day, "/undo": pages.undo,
-    "/release": pages.release, "/name": pages.name, "/names": questions.names,
+    "/release": pages.release, "/correct": pages.correct_page, "/name": pages.name, "/names": questions.names,
     "/accounts": questions.accounts, "/accounts/<int:number>": questions.account, "/compliance": questions.compliance,
     "/due": coming.page, "/due.<any(csv, xlsx, json, ics):kind>": coming.as_file,
     "/approve": pages.approve_page, "/search": search.page, "/month": questions.month_page,
@@ -55,6 +58,8 @@ GET: dict[str, Callable[..., Any]] = {
     "/journal": questions.journal, f"/journal.{FILES}": questions.journal_file, f"/days.{FILES}": questions.days_file,
     f"/month.{FILES}": questions.month_file, "/audit": questions.audit, "/send": questions.send,
     "/hand-in/look/<key>": asks.look, "/change/look/<key>": asks.look, "/names/look/<key>": asks.look,
+    "/office": settings_page.page, "/office/anchor.csv": settings_page.anchor,
+    "/office/<number>/<name>": settings_page.copy,
     "/jobs/<number>": questions.job, "/jobs/<number>/packages.zip": questions.packages,
 }  # fmt: skip
 POST: dict[str, Callable[..., Any]] = {
@@ -62,6 +67,9 @@ POST: dict[str, Callable[..., Any]] = {
     # (a look is kept, so that the next one tells what is new)
     "/next/seen": functools.partial(posts.begin, command="try"),
     "/change/look": asks.ask, "/change/make": posts.make_change, "/close/settle": posts.settle,
+    "/correct/look": posts.look_at_correction, "/correct/make": posts.make_correction,
+    "/office/db": functools.partial(settings_page.begin, command="db"),
+    "/office/backup": functools.partial(settings_page.begin, command="backup"),
     "/undo/yes": posts.undo, "/release/yes": posts.release, "/names/look": asks.ask,
     "/names/give": posts.give_names, "/approve": posts.approve, "/audit/begin": posts.audit, "/send/begin": posts.send,
 }  # fmt: skip
@@ -95,6 +103,8 @@ def make(served: Served) -> flask.Flask:
     app.teardown_request(lambda _: flask.g.pop("voice", contextlib.ExitStack()).close())
     # (the gate stands before all pages, also those that are not there)
     app.before_request(functools.partial(gate.let_in, served))
+    # (and behind it, who is tied to a holder has a desk of their own)
+    app.before_request(functools.partial(own.answer, served))
     app.after_request(gate.with_headers)
     for fault in (Fault, OSError, HTTPException):
         app.register_error_handler(fault, functools.partial(failed, served))
@@ -110,7 +120,7 @@ def make(served: Served) -> flask.Flask:
         app.add_url_rule(rule, f"{method} {rule}", functools.partial(shows, served, told), methods=[method])
     app.add_url_rule("/style.css", "style", style, methods=["GET"])
     for page in (RULES, FORMATS):
-        app.add_url_rule(f"/{page}", page, functools.partial(questions.document, served, page), methods=["GET"])
+        app.add_url_rule(f"/{page}", page, functools.partial(document, page), methods=["GET"])
     dress(app, served)
     return app
 
@@ -155,10 +165,11 @@ def failed(served: Served, error: Exception) -> Any:
 def dress(app: flask.Flask, served: Served) -> None:
     """What all templates know."""
     hidden = OF_CHANGES if served.is_look else set()
-    groups = {of: {path: own[path] for path in own if path not in hidden} for of, own in GROUPS.items()}
+    groups = {of: {path: each[path] for path in each if path not in hidden} for of, each in GROUPS.items()}
     app.jinja_env.globals.update(
-        groups=groups, is_look=served.is_look, of_looking=OF_LOOKING, office=served.path.name,
-        token=lambda: flask.session["token"], once=lambda: secrets.token_hex(8), state=lambda: flask.g.state,
+        groups=lambda: own.GROUPS if gate.tied() else groups, is_look=served.is_look, of_looking=OF_LOOKING,
+        office=served.path.name,
+        token=lambda: flask.session["token"], once=lambda: secrets.token_hex(8), state=lambda: flask.g.get("state", ""),
         who=lambda: gate.known_name(served), says_name=not (served.who or served.proxy or served.door),
         may_not=lambda: gate.may_not(served), apart=beside.apart, time=voice.time,
         zone=words.zone, table=shown.sorted_table, acts=faults.ACT_WORDS,
@@ -169,6 +180,12 @@ def dress(app: flask.Flask, served: Served) -> None:
         called=lambda word: long_date(word) if isinstance(word, datetime.date) else beside.called(word),
     )
     app.jinja_env.trim_blocks = app.jinja_env.lstrip_blocks = True
+
+
+def document(name: str) -> Any:
+    """The page of a document."""
+    title, body = document_parts(name)
+    return flask.render_template("base.html", title=title, is_in=True, body=body)
 
 
 def style() -> Response:

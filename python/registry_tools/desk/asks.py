@@ -15,12 +15,17 @@ from registry_tools.desk.shown import (
 from registry_tools.desk.words import LAGS
 from registry_tools.errors import FileFault, WordsFault
 from registry_tools.office import handed, label, trial
-from registry_tools.office.incoming import Given
+from registry_tools.office.incoming import Forms, Given
 from registry_tools.office.office import sum_of_outcome
 from registry_tools.office.trial import Looked, whys
 from registry_tools.pages.beside import BESIDE, side_by_side
+from registry_tools.sheets.importing import read_mapping
+from registry_tools.sheets.mapping import Mapping
+from registry_tools.texts.rows import KeptText
 
 AGAIN = re.compile("([0-9]{1,3}):([1-9][0-9]{0,8})")
+# Under this name a mapping lies beside the files of an upload.
+MAPPING = "mapping"
 NOT_WHOLE = "the form is not whole: nothing was done"
 # What a form of a look says beside what it asks for.
 OF_ASKING = OF_PAGE | {"who", "why", "look"}
@@ -52,10 +57,13 @@ def page_of_form() -> str:
 def uploaded(served: Served, page: str, said: dict[str, list[str]]) -> str:
     """The name of a new upload with the files of the form, or with the instruction that it says; nothing, if a change
     or a name needs none. Raises WordsFault if an instruction needs one."""
-    chosen = [own for own in flask.request.files.getlist("files") if own.filename]
+    chosen, year = [own for own in flask.request.files.getlist("files") if own.filename], "".join(said.get("year", []))
     is_typed = page == "/hand-in" and any(said.get("act", ()))
     typed = forms.numbers_in(Asked(page, said, "").first(), served.reading.names()) if is_typed else {}
     rows = forms.rows_of_instruction(typed) if is_typed else b""
+    if page == "/hand-in" and year:
+        calendar = flask.request.files.get("calendar")
+        rows = forms.rows_of_year(year, "".join(said.get("but", [])), calendar.read() if calendar else b"")
     if not chosen and not rows:
         if page == "/hand-in":
             raise WordsFault("no file was chosen")
@@ -63,8 +71,13 @@ def uploaded(served: Served, page: str, said: dict[str, list[str]]) -> str:
     place = served.jobs.new_upload(flask.request.content_length or 0)
     if is_typed:
         served.jobs.place_for(place, looks.TYPED).write_bytes(rows)
-    for own in [] if is_typed else chosen:
+    if year:
+        served.jobs.place_for(place, f"working days of {year}.csv").write_bytes(rows)
+    for own in [] if is_typed or year else chosen:
         own.save(served.jobs.place_for(place, own.filename or ""))
+    mapping = flask.request.files.get("mapping")
+    if mapping and mapping.filename:
+        mapping.save(place / MAPPING)
     return place.name
 
 
@@ -128,8 +141,9 @@ def page_of_files(served: Served, key: str, asked: Asked) -> Any:
     reading, by = served.reading, gate.by(served)
     again = meant_again(asked, len(files))
     with served.jobs.looking:
+        forms_of = Forms(mapping_of(served, asked), dates or None)
         own = reading.once(("look", key, by.login), reading.all_states(),
-                           lambda: looks.look_at_incoming(reading, by, files, again, dates))  # fmt: skip
+                           lambda: looks.look_at_incoming(reading, by, files, again, forms_of))  # fmt: skip
     if own.faults and not own.meant:
         served.jobs.spent.add(asked.place)
     again += [own.meant] if own.meant else []
@@ -143,6 +157,12 @@ def page_of_files(served: Served, key: str, asked: Asked) -> Any:
         outcomes=trial.counts_of(own.looked),
         shown_row=lambda row: (*row[:4], outcome(row[5])), names=[own.name for own in files],
     )  # fmt: skip
+
+
+def mapping_of(served: Served, asked: Asked) -> Mapping:
+    """The mapping that came with files, if one did. Raises FileFault if it is none."""
+    path = served.jobs.private / asked.place / MAPPING
+    return read_mapping(KeptText("the mapping", path.read_bytes)) if path.is_file() else Mapping()
 
 
 def back_of_files(key: str, asked: Asked) -> str:

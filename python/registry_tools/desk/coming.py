@@ -39,8 +39,13 @@ def found_until(own: Reading) -> tuple[list[due.Due], datetime.date]:
     """What is due up to the day of the address, or as many days ahead as the office says; and that day."""
     office, word = own.office(), asked("until")
     until = date_of("Up to the day", word) if word else due.last_shown(office)
+    settled = own.settled()
+    assert settled is not None  # (who asks has looked)
+    # (what nothing changes that is handed in is kept)
+    known = own.once(("due", voice.is_desk()), own.state_of_days(),
+                     functools.partial(due.of_days, office, settled.day, settled.report))  # fmt: skip
     state = f"{own.all_states()} {datetime.date.today()}"
-    return own.once(("due", until, voice.is_desk()), state, lambda: due.due_until(office, until)), until
+    return own.once(("due", until, voice.is_desk()), state, lambda: due.with_calendar(office, until, known)), until
 
 
 def cells_of(own: Reading, row: Sequence[Any]) -> Sequence[Any]:
@@ -52,6 +57,8 @@ def cells_of(own: Reading, row: Sequence[Any]) -> Sequence[Any]:
 
 def as_file(served: Served, kind: str) -> Response:
     """What is due as a table with all columns of ./day due, or as a calendar."""
+    if served.reading.office().last() is None:
+        return gate.said(400, gate.NO_DAY)
     # (other programs get what the command gives them)
     with voice.speaking(voice.TERMINAL):
         found, until = found_until(served.reading)

@@ -36,8 +36,8 @@ from pathlib import Path
 
 from registry_tools import isolated, streams
 from registry_tools.cli import words
-from registry_tools.desk import heads, log
-from registry_tools.desk.heads import Proxy
+from registry_tools.door import heads, log
+from registry_tools.door.heads import Proxy
 from registry_tools.errors import WordsFault
 from registry_tools.office import folder, people
 from registry_tools.progress import progress
@@ -101,7 +101,7 @@ def at_socket(said: argparse.Namespace, path: Path) -> int:
     missing = missing_of(AT_SOCKETS)
     if missing:
         return by_system(missing, AT_SOCKETS, f"{PACKAGES} python3-gunicorn")
-    from registry_tools.desk import door
+    from registry_tools.door import door
 
     own, known = people.system_login(), door.Door(path).people()
     if not known.may_speak(own):
@@ -114,11 +114,12 @@ def at_socket(said: argparse.Namespace, path: Path) -> int:
 
 def serve_at(path: Path, socket: str, header: str, is_look: bool) -> None:
     """Answers requests at a socket until somebody ends it."""
-    from registry_tools.desk import app, door, worker
-    from registry_tools.desk.commands import Coming
+    from registry_tools.desk import app
     from registry_tools.desk.gate import Served
     from registry_tools.desk.jobs import private_folder
-    from registry_tools.desk.kept import Kept
+    from registry_tools.door import door, worker
+    from registry_tools.door.commands import Coming
+    from registry_tools.door.kept import Kept
 
     gc.enable()
     progress.is_shown = False
@@ -143,9 +144,10 @@ def serve(path: Path, port: int, who: str | None, proxy: Proxy | None, is_look: 
     """Answers requests until somebody ends it."""
     import waitress
 
-    from registry_tools.desk import app, early
+    from registry_tools.desk import app
     from registry_tools.desk.gate import Served
     from registry_tools.desk.jobs import private_folder
+    from registry_tools.door import early
 
     # (a server lives for days, and a command would leave its circles to its end)
     gc.enable()

@@ -4,9 +4,11 @@ import contextlib
 import csv
 import io
 import itertools
+import re
 from dataclasses import dataclass
 from typing import Iterable, Iterator, Mapping, Sequence
 
+from registry_tools.calendars import years
 from registry_tools.desk.reading import Reading
 from registry_tools.desk.words import LAGS, label
 from registry_tools.errors import WordsFault, shown
@@ -35,6 +37,7 @@ NUMERIC, NEEDED = 'inputmode="numeric"', 'inputmode="numeric" required'
 DATES = ["", "31.12.2026", "31/12/2026", "12/31/2026"]
 # So many working days are offered that are to be none any more, and so many accounts.
 MOST_WORKING, MOST_OFFERED = 30, 1_000
+YEAR = re.compile("[0-9]{4}", re.ASCII)
 Said = Mapping[str, str]
 
 
@@ -160,6 +163,15 @@ def rows_of_instruction(said: Said) -> bytes:
     content = stream.getvalue().encode("utf-8", "replace")
     made = importing.imported(read_content("typed", content), False, None)
     return content if made.wrong else text_of_rows(made.rows)
+
+
+def rows_of_year(year: str, but: str, calendar: bytes) -> bytes:
+    """The rows of the working days of a year: all weekdays but those that were typed, and those of a calendar. Raises
+    WordsFault."""
+    if not YEAR.fullmatch(year):
+        raise WordsFault(f"Year: found {shown(year)}; expected one as 2027")
+    gone = {*years.dates_in(but), *(years.days_of_ics(calendar) if calendar else [])}
+    return text_of_rows([f"work,{date}" for date in years.weekdays_but(int(year), gone)])
 
 
 def account_fields(block: Block, periods: int) -> Iterator[Field]:

@@ -12,18 +12,19 @@ import flask
 from flask.sessions import SecureCookieSessionInterface
 from werkzeug.wrappers import Response
 
-from registry_tools.desk import heads, log
-from registry_tools.desk.door import NO_LINK, NOT_NAMED, Caller, Door, link_name, peer_of
-from registry_tools.desk.heads import LONGEST_NAME, MOST_FORM, Head, Proxy, Refusal
 from registry_tools.desk.jobs import Jobs
-from registry_tools.desk.kept import BYTES, signed_by
 from registry_tools.desk.reading import Reading
 from registry_tools.desk.shown import back_of_form, show_page
 from registry_tools.cli.words import one_line
+from registry_tools.door import heads, log
+from registry_tools.door.door import NO_LINK, NOT_NAMED, Caller, Door, link_name, peer_of
+from registry_tools.door.heads import LONGEST_NAME, MOST_FORM, Head, Proxy, Refusal
+from registry_tools.door.kept import BYTES, signed_by
 from registry_tools.errors import FileFault, RightsFault, WordsFault
 from registry_tools.layout import SETTINGS
 from registry_tools.office import people, settings
 from registry_tools.office.office import By
+from registry_tools.office.people import Person
 from registry_tools.sheets import limits
 
 # Nothing is fetched from elsewhere, no script runs, no other page has one of the desk in itself, and nobody keeps one.
@@ -37,12 +38,13 @@ HEADERS = {
 }  # fmt: skip
 PLAIN, OTHER_TOKEN = "text/plain; charset=utf-8", "its token is not that of the browser"
 NO_DAY = "No day is settled yet: Today leads to the first one."
+NOT_NOW = "The office cannot answer this now, and nothing was done. Come again later, or ask the office."
 # Who looks, and has not said a name yet.
 NOBODY = "nobody yet"
 # The command of each page that asks for a yes.
 COMMANDS = {
     "/hand-in": "hand-in", "/change": "change", "/names": "label", "/close": "close", "/undo": "undo",
-    "/release": "release",
+    "/release": "release", "/correct": "correct",
 }  # fmt: skip
 
 
@@ -75,6 +77,18 @@ def head() -> Head:
 
 def let_in(served: Served) -> Any:
     """Answers nothing to who may go on, or why not."""
+    try:
+        return let_in_or_not(served)
+    except (FileFault, OSError) as error:
+        if served.door is None and served.proxy is None:
+            raise
+        # (as long as nobody knows who may come, nobody is told more)
+        log.told(f"nobody is let in: {error}")
+        return said(500, NOT_NOW)
+
+
+def let_in_or_not(served: Served) -> Any:
+    """The same. Raises FileFault if nobody knows who may come."""
     own, request = head(), flask.request
     if served.door is not None:
         return let_in_by(served.door, own)
@@ -91,6 +105,7 @@ def refusal_of_name(served: Served) -> Refusal | None:
     """Why somebody gets nothing whom the proxy names, and office.ini does not."""
     known = settings.read(served.path / SETTINGS).people.named if served.proxy is not None else {}
     name = name_of_proxy(served)
+    flask.g.person = known.get(name)
     if not known or name in known:
         return None
     return Refusal(403, NOT_NAMED, f"{name}, whom the proxy names, is no login that {SETTINGS} names")
@@ -102,7 +117,7 @@ def let_in_by(door: Door, own: Head) -> Any:
     caller = door.caller(peer, own)
     if isinstance(caller, Refusal):
         return refuse(own, caller)
-    flask.g.caller = caller
+    flask.g.caller, flask.g.person = caller, door.people().named.get(people.person_of(caller.login))
     if peer.is_at_links:
         return let_in_machine(own, caller) if own.path.endswith(".json") else link_for(door, own, caller)
     refusal = heads.refusal_of_site(own.of("Host"), own)
@@ -266,6 +281,12 @@ def known_name(served: Served) -> str:
     return name_of_proxy(served) if served.proxy is not None else served.who or str(flask.session.get("who", ""))
 
 
+def tied() -> Person | None:
+    """Who is at this browser, if it is somebody whom office.ini ties to a holder."""
+    person: Person | None = flask.g.get("person")
+    return person if person is not None and person.tied_to(people.HOLDER) else None
+
+
 def speaks_for(served: Served, who: str) -> str | None:
     """The login that the system or the proxy names, if office.ini lets the login of this desk speak for others. A name
     that somebody typed is no login."""
@@ -290,7 +311,7 @@ def login_of(served: Served, who: str) -> str:
 def may_not(served: Served) -> str:
     """Why who is known here may not give the command of this page, before it is filled in; nothing, if they may."""
     command, who = COMMANDS.get(flask.request.path), known_name(served)
-    if command is None or not who or served.is_look:
+    if command is None or not who or served.is_look or tied():
         return ""
     try:
         people.must_be_allowed(served.reading.office().people, login_of(served, who), command)

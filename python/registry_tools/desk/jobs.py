@@ -18,6 +18,7 @@ from pathlib import Path
 from typing import Callable, Iterator
 
 from registry_tools import isolated, main, opening, outcomes
+from registry_tools.door.commands import MOST_SECONDS, Started
 from registry_tools.errors import FOUND, WordsFault
 from registry_tools.office.incoming import Given
 from registry_tools.outcomes import Kind
@@ -31,20 +32,19 @@ MOST_JOBS, UPLOAD_AGE = 200, 3_600
 MOST_ASKED, MOST_LETTERS = 1_000, 1 << 16
 # So many uploads wait at a time, of so many bytes in all, and each has so many files at most.
 MOST_WAITING, MOST_BYTES_WAITING, MOST_FILES = 100, 1 << 30, 1_000
-# So long the desk waits for the commands at its end, before it ends them otherwise.
-MOST_SECONDS = 60.0
 # Where a command tells what came of it.
 OUTCOME = "outcome.json"
 # How a line of progress begins, and what a name of an upload may have.
 PROGRESS, LONGEST_NAME = "\r\033[K", 60
 # Where a command puts files that somebody takes with him; the private folder of a desk, and its lock.
 MADE, PREFIX, LOCK = "made", "day-desk-", "lock"
+# The copies that a command makes for a browser, by its name.
+COPIES = {"db": "days.sqlite", "backup": "registry.sqlite"}
 # The commands whose status says what they found, and not that they did nothing.
 FINDING = ("hand-in", "audit", "try", "status", "send")
 NOTHING = "Nothing was done."
 KEY = re.compile("[0-9a-f]{32}")
 FORGOTTEN = "the desk knows nothing of this look any more"
-Started = subprocess.Popen[bytes]
 
 
 @dataclass
@@ -78,11 +78,17 @@ class Job:
         status = self.status
         if status is None:
             return "At work"
+        if self.asks_yes():
+            return "Nothing is corrected yet. This is what would become of it:"
         if status == 0 or status == FOUND and self.command in FINDING:
             is_audit = self.command == "audit"
             return "Done." if not is_audit else "Something was found." if status else "Nothing was found."
         is_asked_for = self.kind() is Kind.ASKED_FOR
         return "It is asked for, and waits for somebody else." if is_asked_for else NOTHING
+
+    def asks_yes(self) -> bool:
+        """Whether it only showed what a correction would make."""
+        return self.command == "correct" and self.status == FOUND and "--yes" not in self.words
 
     def kind(self) -> Kind:
         """How it ended, as it has told it; one that was killed has done nothing, as far as anybody knows."""

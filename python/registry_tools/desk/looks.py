@@ -47,10 +47,10 @@ class Look:
     rows: list[tuple[str, list[str]]] = field(default_factory=list)
 
 
-def look_at_incoming(own: Reading, by: By, files: list[Given], again: list[tuple[int, int]], dates: str = "") -> Look:
+def look_at_incoming(own: Reading, by: By, files: list[Given], again: list[tuple[int, int]], forms: Forms) -> Look:
     """What would come of files, with the rows, by file and line, that are meant once more."""
     words = tuple(f"{files[place].path}:{line}" for place, line in again)
-    asked = HandIn(tuple(files), words, Forms(dates=dates or None))
+    asked = HandIn(tuple(files), words, forms)
     try:
         with own.anew() as office, office.trying("hand-in", by):
             added = hand_in.added(office, asked)

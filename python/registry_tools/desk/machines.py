@@ -11,10 +11,11 @@ import flask
 from werkzeug.wrappers import Response
 
 from registry_tools import outcomes, tables
-from registry_tools.desk import gate, log
+from registry_tools.desk import gate
 from registry_tools.desk.gate import Served
 from registry_tools.desk.questions import rows_file
 from registry_tools.desk.shown import asked
+from registry_tools.door import log
 from registry_tools.errors import FOUND, FileFault, RightsFault, WordsFault
 from registry_tools.notes import worth_telling
 from registry_tools.office import hand_in as handing, handed, trial

@@ -13,7 +13,7 @@ from werkzeug.exceptions import NotFound
 from registry_tools import voice
 from registry_tools.calendars.dates import date_of
 from registry_tools.cli.close import compliant_told
-from registry_tools.desk import asks, forms, gate, looks, pictures, shown
+from registry_tools.desk import asks, forms, gate, looks, shown
 from registry_tools.desk.gate import Served
 from registry_tools.desk.reading import Reading
 from registry_tools.desk.shown import asked, number_asked, row_of_taken, show_page, sorted_table
@@ -23,7 +23,7 @@ from registry_tools.office import approvals, approve, handed, release as releasi
 from registry_tools.office.office import Office
 from registry_tools.office.trial import Looked, whys
 from registry_tools.office.waits import waits_of
-from registry_tools.pages import summary
+from registry_tools.pages import pictures, summary
 from registry_tools.pages.beside import item_in_words
 from registry_tools.pages.html import Markup, link, paragraph, tag
 from registry_tools.pages.plan import plan_parts
@@ -108,7 +108,8 @@ def is_for(served: Served, office: Office, waits: approvals.Waits) -> bool:
         return False
     with contextlib.suppress(WordsFault):
         mine = replace(office, login=gate.by(served).login)
-        approve.must_be_other(mine, (approvals.COMMAND_OF[waits.part.kind],), waits.part.who, waits.part.login)
+        commands = approvals.commands_for(office, waits.part, mine.login)
+        approve.must_be_other(mine, commands, waits.part.who, waits.part.login)
         return True
     return False
 
@@ -139,8 +140,8 @@ def hand_in(served: Served) -> Any:
     return show_page(
         "hand_in", "Hand in", act=act, fields=forms.instruction_fields(own, act, of) if act else [], empty=EMPTY,
         of=of, of_account=forms.told_of_account(own, of) if of else "", users=forms.users_entitled(own, act, of),
-        known=forms.accounts_offered(own) if act else [], cut=forms.cut_told(own), dates=forms.DATES, later=forms.LATER,
-        look=asked("look"), chosen=asks.chosen(served, asked("look")),
+        known=forms.accounts_offered(own) if act else [], cut=forms.cut_told(own) if act else "",
+        dates=forms.DATES, later=forms.LATER, look=asked("look"), chosen=asks.chosen(served, asked("look")),
     )  # fmt: skip
 
 
@@ -240,7 +241,7 @@ def totals_of(before: Mapping[str, Sums], after: Mapping[str, Sums]) -> Markup:
 
 def day_rows(served: Served) -> list[tuple[Any, ...]]:
     """All settled days, the last one first."""
-    told = releasing.days_told(served.reading.office())
+    told = taken.days_told(served.reading.office())
     return [(str(own.date), own.who, voice.time(own.at), own.next - own.first, *more) for own, *more in told]
 
 
@@ -305,10 +306,13 @@ def day(served: Served, word: str) -> Any:
     only = asked("only") if asked("only") in OUTCOMES else ""
     log = [row for row in settled.log if only in ("", kind_of(row))]
     rows = [(row.record, record_in_words(row), rules.named(row.instruction), outcome_in_words(row), row) for row in log]
-    count, accounts_of = Counter(kind for row in settled.log for kind in ("", kind_of(row))), settled.accounts_of
+    count = Counter(kind for row in settled.log for kind in ("", kind_of(row)))
+    accounts_of, found = settled.accounts_of, settled.found
 
     def cells(row: Sequence[Any]) -> Sequence[Any]:
-        return *row[:2], accounts_of(row[4]), own.outcome(word, row[0], row[3])
+        outcome = own.outcome(word, row[0], row[3])
+        why = found.get(row[0]) if kind_of(row[4]) == "refused" else None
+        return *row[:2], accounts_of(row[4]), joined_words(outcome, why) if why else outcome
 
     counts = {kind: count[kind] for kind in ("", *OUTCOMES)}
     return show_page(
@@ -326,7 +330,7 @@ def parts_of(settled: Settled, own: Reading) -> Iterator[Markup]:
     ]
     office, event = own.office(), own.office().events.day_of(settled.head.date)
     gone = [*map(row_of_taken, taken.of_day(office, settled.head.date))]
-    files = [(*row, voice.time(at)) for *row, at in approvals.files_of(office, event)] if event else []
+    files = [(*row, voice.time(at)) for *row, at in taken.files_of(office, event)] if event else []
     yield summary.lead(settled)
     if settled.log:
         yield summary.acts_table(settled)
@@ -337,6 +341,12 @@ def parts_of(settled: Settled, own: Reading) -> Iterator[Markup]:
     yield from (*summary.totals_parts(settled), tag("h2", "Changed by hand"))
     by_hand = own.by_hand(settled.head.date)
     yield from [paragraph("This is the first day.")] if by_hand.rows is None else by_hand_parts(settled, by_hand)
+
+
+def correct_page(served: Served) -> Any:
+    """The form of what is corrected in a settled day that is not released."""
+    days = [row[0] for row in day_rows(served) if row[-1] == "no"]
+    return show_page("correct", "Correct", days=days)
 
 
 def name(served: Served) -> Any:

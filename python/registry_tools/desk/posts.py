@@ -5,12 +5,14 @@ from typing import Any
 import flask
 
 from registry_tools.cli.words import one_line
-from registry_tools.desk import asks, forms, gate, log
+from registry_tools.desk import asks, forms, gate
 from registry_tools.desk.asks import NOT_WHOLE
 from registry_tools.desk.gate import Served
 from registry_tools.desk.jobs import FORGOTTEN, Asked
 from registry_tools.desk.shown import form, back_of_form
+from registry_tools.door import log
 from registry_tools.errors import WordsFault
+from registry_tools.office.incoming import Given
 from registry_tools.office.office import sum_of_outcome
 from registry_tools.office.people import MAY_WAIT
 
@@ -76,6 +78,8 @@ def take(served: Served) -> Any:
     files, dates = served.jobs.upload(asked.place), asked.first().get("dates")
     more = [f"--again={files[own].path}:{line}" for own, line in asks.meant_again(asked, len(files))]
     more += [f"--dates={dates}"] if dates else []
+    mapping = served.jobs.private / asked.place / asks.MAPPING
+    more += [f"--mapping={mapping}"] if mapping.is_file() else []
     return do(served, "hand-in", *more, *asks.names_told(files), "--", *(own.path for own in files))
 
 
@@ -108,6 +112,30 @@ def settle(served: Served) -> Any:
 def undo(served: Served) -> Any:
     """Has the last day taken back."""
     return do_with_why(served, "undo", *([f"--date={form('date')}"] if form("date") else []), "--", form("day"))
+
+
+def look_at_correction(served: Served) -> Any:
+    """Has it shown what a settled day and those behind it would become."""
+    records, files = BETWEEN.split(form("without")) if form("without") else [], list[Given]()
+    if not all(map(PLACE.fullmatch, records)):
+        raise WordsFault("Records that are left out: expected numbers with blanks between them")
+    chosen = [own for own in flask.request.files.getlist("files") if own.filename]
+    if chosen:
+        place = served.jobs.new_upload(flask.request.content_length or 0)
+        for own in chosen:
+            own.save(served.jobs.place_for(place, own.filename or ""))
+        files = served.jobs.upload(place.name)
+    words = [f"--without={own}" for own in records] + [f"--with={own.path}" for own in files] + asks.names_told(files)
+    return do_with_why(served, "correct", *words, *(["--second"] if form("second") else []), "--", form("day"))
+
+
+def make_correction(served: Served) -> Any:
+    """Has a day corrected as it was shown. Raises WordsFault if nothing was."""
+    job = served.jobs.jobs.get(form("job"))
+    if job is None or not job.asks_yes():
+        raise WordsFault(FORGOTTEN)
+    begins = ("--who=", "--seen=", "--for=", "--shown=")
+    return do(served, "correct", "--yes", *(word for word in job.words if not word.startswith(begins)))
 
 
 def release(served: Served) -> Any:

@@ -4,7 +4,7 @@ import functools
 import io
 import tempfile
 import zipfile
-from collections.abc import Iterator, Sequence
+from collections.abc import Callable, Iterator, Sequence
 from dataclasses import replace
 from pathlib import Path
 from typing import Any
@@ -19,21 +19,22 @@ from registry_tools.calendars.due_days import NOT_DUE
 from registry_tools.cli.asked import number_said
 from registry_tools.desk import gate
 from registry_tools.desk.gate import Served
+from registry_tools.desk.jobs import COPIES
 from registry_tools.desk.reading import Reading
-from registry_tools.desk.shown import TYPED, asked, number_asked, row_of_taken, show_page
+from registry_tools.desk.shown import Part, TYPED, asked, number_asked, places_shown, row_of_taken, show_page
 from registry_tools.errors import FOUND, WordsFault
 from registry_tools.notes import BY_HAND
-from registry_tools.office import approvals, release as releasing
 from registry_tools.pages import compliance as standing
 from registry_tools.pages.month_standing import until_in_words
 from registry_tools.pages.beside import item_in_words, words_of_row
 from registry_tools.pages.html import Markup, link
 from registry_tools.pages.month import Month
-from registry_tools.pages.rulebook import document_parts
 from registry_tools.pages.settled import REFUSED, WAITS, Settled, joined_words, outcome_in_words, record_in_words
 from registry_tools.pairs import compliance as answers
 from registry_tools.questions import changes, taken
-from registry_tools.questions.find import Find, accounts_meant, cells_of as cells_of_found, find as found_by
+from registry_tools.questions.days import Days
+from registry_tools.questions.find import Find, accounts_meant, cells_of as cells_of_found, count_found
+from registry_tools.questions.find import find as found_by
 from registry_tools.questions.history import history
 from registry_tools.questions.month import month
 from registry_tools.questions.unpack import row_of
@@ -48,6 +49,8 @@ from registry_tools.texts.labels import ACCOUNT, KINDS, USER, Labels
 from registry_tools.texts.report import LogRow
 
 WORKBOOK = "application/vnd.openxmlformats-officedocument.spreadsheetml.sheet"
+# Reads log rows: all that are meant, or those at some places of them.
+Read = Callable[..., Sequence[LogRow]]
 # Where somebody goes on behind a command.
 BEHIND = dict.fromkeys(("hand-in", "change", "take-back"), ("/next", "To the next day"))
 BEHIND["label"] = ("/names", "To the names")
@@ -226,10 +229,23 @@ def find(served: Served) -> Any:
     own, rows = served.reading, None
     if flask.request.args and TYPED not in flask.request.args:
         found = wanted(own.names())
-        logged = functools.partial(own.of_days, lambda there: [*map(row_of_log, found_by(there, found))])
-        rows = own.once(("found", found), own.state_of_days(), logged)
+        rows = rows_of_log(own, ("found", found), functools.partial(count_found, asked=found),
+                           functools.partial(found_by, asked=found))  # fmt: skip
     query = flask.request.query_string.decode("ascii", "replace")
     return show_page("find", "Find", rows=rows, query=query, shown_row=lambda row: cells_of_log(own, row))
+
+
+def rows_of_log(own: Reading, key: object, count: Callable[[Days], int], read: Read) -> Sequence[Any]:
+    """Log rows as a table shows them: those of its page alone, or all, if they are sorted otherwise."""
+    if flask.request.args.get("sort", "-") not in ("-", ""):
+        return own.once(key, own.state_of_days(), lambda: own.of_days(lambda there: [*map(row_of_log, read(there))]))
+
+    def part(there: Days) -> Part:
+        found = count(there)
+        places = places_shown(found)
+        return Part(found, places.start, [*map(row_of_log, read(there, places=places))])
+
+    return own.of_days(part)
 
 
 def row_of_log(own: LogRow) -> tuple[str, int, str, str, str, str]:
@@ -304,7 +320,7 @@ def cell_of(value: object) -> Cell:
 
 def days_file(served: Served, kind: str) -> Response:
     """All settled days, as a file."""
-    there = reversed([*releasing.days_told(served.reading.office())])
+    there = reversed([*taken.days_told(served.reading.office())])
     rows: list[Sequence[Cell]] = [
         (str(own.date), own.who, own.at, own.first, own.next, engine, is_out) for own, engine, is_out in there
     ]
@@ -325,7 +341,7 @@ def month_file(served: Served, kind: str) -> Response:
 def journal(served: Served) -> Any:
     """The page of what was done in the folder, and changed by hand."""
     office = served.reading.office()
-    who = functools.partial(approvals.who_and_second, office)
+    who = functools.partial(taken.who_and_second, office)
     events = [(voice.time(own.at), own.what, str(own.date), who(own.who, own.login, own.approved), own.why)
               for own in reversed(office.events.of_days())]  # fmt: skip
     by_hand = [(day, voice.time(own.part.at), who(own.part.who, own.part.login, second), own.part.name,
@@ -357,6 +373,8 @@ def job(served: Served, number: str) -> Any:
         leads = (f"/days/{date}", "To the day")
     if there.status in (0, FOUND) and there.made():
         leads = (f"/jobs/{number}/packages.zip", "Download the packages")
+    if there.status == 0 and there.command in COPIES:
+        leads = (f"/office/{number}/{COPIES[there.command]}", "Download it")
     asked_for = served.jobs.asked_for("/hand-in", there.back.rpartition("/")[2].partition("?")[0])
     act = asked_for.first().get("act", "") if asked_for and there.status in (0, FOUND) else ""
     ended = "at work" if there.status is None else "nothing was done" if there.is_fault() else "done"
@@ -376,9 +394,3 @@ def packages(served: Served, number: str) -> Response:
         for path in there.made():
             archive.write(path, path.name)
     return download(content.getvalue(), "application/zip", "packages.zip")
-
-
-def document(_served: Served, name: str) -> Any:
-    """The page of a document."""
-    title, body = document_parts(name)
-    return flask.render_template("base.html", title=title, is_in=True, body=body)

@@ -1,6 +1,7 @@
 """What the pages show: read by the functions behind the commands, and kept as long as the folder is the same. Nothing
 here writes into the folder."""
 import contextlib
+import copy
 import datetime
 import functools
 import gc
@@ -25,6 +26,7 @@ from registry_tools.office.waits import waiting_behind
 from registry_tools.pages import compliance as standing, indexed, month, send
 from registry_tools.pages.account import own_parts
 from registry_tools.pages.html import Frame, Markup, joined, link
+from registry_tools.pages.letter import LetterWords
 from registry_tools.pages.month import Month
 from registry_tools.pages.rulebook import Rulebook, link_to_check
 from registry_tools.pages.settled import REFUSED, WAITS, ByHand, Settled, by_hand_before, told_by
@@ -176,6 +178,21 @@ class Reading:
         state = f"{event.line} {self.state_of_names()}"
         return self.once(("settled", event.date), state, functools.partial(read_settled, office, event, self.names()))
 
+    def settled_for_holders(self) -> DeskSettled | None:
+        """The last settled day in words for holders; None if there is none."""
+        own, last = self.settled(), self.office().last()
+        if own is None or last is None:
+            return None
+        made = copy.copy(own)
+        made.rulebook = LetterWords()
+        return self.once("for holders", f"{last.line} {self.state_of_names()}", lambda: made)
+
+    def accounts_of_holders(self) -> dict[int, list[int]]:
+        """The accounts of each holder after the last day. There has to be one."""
+        own = self.settled()
+        assert own is not None
+        return self.once("holders", self.state_of_days(), functools.partial(send.accounts_of, own.report, None))
+
     def waits_until(self, date: datetime.date, record: int) -> str:
         """Until when an instruction of a day waits, or waited."""
         office = self.office()
@@ -204,7 +221,7 @@ class Reading:
         filed = [event for event in office.events.days if event.date <= date][-2:]
 
         def work() -> ByHand:
-            *before, own = past.read_all([past.pair_of(office.store, event) for event in filed])
+            *before, own = past.read_all([office.store.pair_of(event) for event in filed])
             pair = (before[0].day, before[0].report) if before else None
             items = handed.for_a_day(office.store, filed[-1]).items(handed.CHANGES, handed.EDITS)
             told = [[voice.time(at), *more] for at, *more in told_by(items)]
@@ -301,8 +318,8 @@ class Reading:
 
 def read_settled(office: Office, event: Event, names: Labels) -> DeskSettled:
     """A settled day with its report and the names."""
-    own = next(past.read_all([past.pair_of(office.store, event)]))
-    earlier = send.waiting_of(past.kept(office.store, event, "waiting"), own)
+    own = next(past.read_all([office.store.pair_of(event)]))
+    earlier = send.waiting_of(office.store.kept(event, "waiting"), own)
     return DeskSettled(own.day, own.report, DeskBook("/"), Frame([]), own.report.book.keys(), earlier, names)
 
 

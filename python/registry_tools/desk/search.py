@@ -1,11 +1,11 @@
 """What one field finds: accounts, holders, users, names, records, amounts, and the checks that refuse."""
-from collections.abc import Iterator
+from collections.abc import Iterator, Sequence
 from typing import Any
 
 from registry_tools import tables
 from registry_tools.desk import questions
 from registry_tools.desk.gate import Served
-from registry_tools.desk.questions import cells_of_log, row_of_log
+from registry_tools.desk.questions import cells_of_log
 from registry_tools.desk.reading import Reading
 from registry_tools.desk.shown import asked, show_page
 from registry_tools.notes import counted
@@ -13,14 +13,17 @@ from registry_tools.pages.html import Markup, link
 from registry_tools.pages.rulebook import link_to_check
 from registry_tools.pages.settled import joined_words
 from registry_tools.questions.days import Days
-from registry_tools.questions.records import logged
+from registry_tools.questions.records import count_logged, logged
 from registry_tools.texts.checks import Check, checks
 from registry_tools.texts.labels import ACCOUNT, HOLDER
 from registry_tools.texts.report import LogRow
 
 # So many names are told, and the log rows that a number or a check names.
 MOST_NAMES = 20
-OF_AMOUNT = "(i.amount = :amount OR i.record IN (SELECT record FROM shares WHERE amount = :amount))"
+OF_NUMBER = (
+    "SELECT :amount UNION SELECT record FROM instructions WHERE amount = :amount"
+    " UNION SELECT record FROM shares WHERE amount = :amount"
+)
 # What may stand between the digits of an amount that somebody types.
 BETWEEN = str.maketrans("", "", ",.' \u00a0\u202f")
 
@@ -29,7 +32,7 @@ def page(served: Served) -> Any:
     """The page of what a word finds."""
     own, word = served.reading, asked("q")
     found = [*whats_of(own, word)] if word else []
-    rows = [*map(row_of_log, own.of_days(lambda there: log_rows_named(there, word)))] if word else []
+    rows = log_rows_named(own, word) if word else []
     return show_page(
         "search", "Search", q=word, found=found, rows=rows, shown_row=lambda row: cells_of_log(own, row),
     )  # fmt: skip
@@ -70,12 +73,17 @@ def whats_of(own: Reading, word: str) -> Iterator[Markup]:
         yield joined_words(link_to_check(check.code, f"Check {check.name}", "/"), check.meaning)
 
 
-def log_rows_named(there: Days, word: str) -> list[LogRow]:
+def log_rows_named(own: Reading, word: str) -> Sequence[Any]:
     """The log rows of a record, or of an amount, or those that a check refused."""
-    number, found = number_of(word), dict[int, LogRow]()
-    if number is not None:
-        for where in ("i.record = :amount", OF_AMOUNT):
-            found |= {row.record: row for row in logged(there, [where], {"amount": number})}
-    for check in checks_named(word):
-        found |= {row.record: row for row in logged(there, ["log.code = :code"], {"code": check.code})}
-    return [*found.values()]
+    codes = ", ".join(str(check.code) for check in checks_named(word))
+    number = number_of(word)
+    if number is None and not codes:
+        return []
+    parts = [OF_NUMBER] if number is not None else []
+    parts += [f"SELECT record FROM log WHERE code IN ({codes})"] if codes else []
+    where, values = [f"i.record IN ({' UNION '.join(parts)})"], {"amount": number}
+
+    def read(there: Days, places: range | None = None) -> list[LogRow]:
+        return [*logged(there, where, values, places)]
+
+    return questions.rows_of_log(own, ("searched", word), lambda there: count_logged(there, where, values), read)

@@ -95,6 +95,33 @@ def row_of_taken(own: taken.TakenBack) -> tuple[object, ...]:
     return own.taken.place, what, own.taken.who, voice.time(own.taken.at), own.taken.why
 
 
+class Part(Sequence[Any]):
+    """The rows of a long table of which only those of the page were read, which begin at a place."""
+
+    def __init__(self, length: int, begin: int, rows: Sequence[Any]) -> None:
+        self.length, self.begin, self.rows = length, begin, rows
+
+    def __len__(self) -> int:
+        return self.length
+
+    def __getitem__(self, places: Any) -> Any:
+        if isinstance(places, slice):
+            return self.rows[places.start - self.begin : places.stop - self.begin]
+        return self.rows[places - self.begin]
+
+
+def page_of_table(count: int, name: str = "") -> tuple[int, int]:
+    """Which page of a table with so many rows the address asks for, and how many there are."""
+    last = max(-(-count // ROWS), 1)
+    return min(max(flask.request.args.get(f"{name}page", 1, type=int), 1), last), last
+
+
+def places_shown(count: int) -> range:
+    """The places of the rows that the page of the address shows, of so many."""
+    number, _ = page_of_table(count)
+    return range((number - 1) * ROWS, min(number * ROWS, count))
+
+
 def sorted_table(
     caption: str,
     columns: Sequence[str],
@@ -114,8 +141,7 @@ def sorted_table(
     if by in columns:
         place = [*columns].index(by)
         rows = sorted(rows, key=lambda row: sort_key(row[place]), reverse=word.startswith("-"))
-    last = max(-(-len(rows) // ROWS), 1)
-    number = min(max(flask.request.args.get(page, 1, type=int), 1), last)
+    number, last = page_of_table(len(rows), name)
     part = [["" if cell is None else cell for cell in show(row)] for row in rows[(number - 1) * ROWS : number * ROWS]]
     ways = {own: address(**{sort: f"-{own}" if word == own else own, page: None}) for own in columns}
     heads = [link(ways[own], own) if own else own for own in columns] if len(rows) > 1 else None

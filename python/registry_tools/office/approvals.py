@@ -27,7 +27,6 @@ COMMAND_OF = {handed.DO: "hand-in", handed.WORK: "hand-in", handed.CHANGES: "cha
 LIKE = {"correct": ("correct", "close", "undo")}
 # By these words a command says that it waits.
 ASKED_FOR = "is asked for, and waits for"
-FIRST_TEXT = "the first text, with instructions"
 # Behind this option, the words of a command are the reason.
 WHY = "--why "
 
@@ -139,7 +138,22 @@ def needs_second(office: Office, part: Part) -> bool:
     """Whether something that was handed in counts only if another login approves it: if all such things do, or if
     office.ini names people, and does not let whoever handed it in do so."""
     command = COMMAND_OF.get(part.kind)
-    return command is not None and (waits(office, command) or not office.people.may_have(part.login, command))
+    if command is None or waits(office, command):
+        return command is not None
+    return not (office.people.may_have(part.login, command) or is_own(office, part))
+
+
+def is_own(office: Office, part: Part, login: str = "") -> bool:
+    """Whether a holder's login handed in what names no other user than its own; or whether it names that of another
+    login of this holder, which so may approve it."""
+    people_there = office.people
+    own, other = (people_there.named.get(people.person_of(each)) for each in (part.login, login or part.login))
+    if not own or not other or not people_there.may_have(part.login, people.OWN) or part.kind != handed.DO:
+        return False
+    text = office.store.texts.get(part.sum).decode("utf-8", "surrogateescape")
+    users = {user for row in text.splitlines() if row != "end" for user in row.split(",")[2:4] if user}
+    tied = [each.tied_to(people.HOLDER) for each in (own, other)]
+    return tied[0] == tied[1] and users <= {str(each.tied_to(people.USER)) for each in (own, other)}
 
 
 def handed_in_of(office: Office) -> HandedIn:
@@ -149,13 +163,20 @@ def handed_in_of(office: Office) -> HandedIn:
     asked = [part for part in there.parts if needs_second(office, part) and there.left_of(part)]
     given = all_approvals(office) if asked else []
     for part in asked:
-        own, commands = sum_of_part(there, part), (COMMAND_OF[part.kind],)
-        by = next((each for each in given if is_second(office, each, commands, own, part.login)), None)
+        own = sum_of_part(there, part)
+        by = next((each for each in given if is_second(office, each, commands_for(office, part, each.login), own,
+                                                       part.login)), None)  # fmt: skip
         if by is None:
             there.waiting.append(part)
         else:
             there.approved.append(Approved(by.at, by.who, part.start, by.login))
     return there
+
+
+def commands_for(office: Office, part: Part, login: str) -> tuple[str, ...]:
+    """What a login has to be allowed that approves a part."""
+    command = COMMAND_OF[part.kind]
+    return (people.OWN,) if not waits(office, command) and is_own(office, part, login) else (command,)
 
 
 def approvers(office: Office, asked: Asked) -> list[str]:
@@ -261,25 +282,9 @@ def told_of_new(office: Office, parts: list[Part]) -> list[str]:
     return told
 
 
-def files_of(office: Office, event: Event) -> Iterator[tuple[str, str, str, str]]:
-    """What was handed in for a settled day: the name, what is left of it, who did so, and when."""
-    filed = handed.for_a_day(office.store, event)
-    seconds = {own.place: own.login for own in filed.approved}
-    for part in filed.parts:
-        left, who = len(filed.left_of(part)), who_and_second(office, part.who, part.login, seconds.get(part.start, ""))
-        of = "" if left == part.count else f" of {part.count}"
-        yield part.name, f"{handed.NAMES.get(part.kind, FIRST_TEXT)} {left}{of}", who, part.at
-
-
 def who_did(office: Office, who: str, login: str) -> str:
     """Who did something: the name that was given, and the login if that is another one."""
     if not login:
         return who
     own = office.people.in_words(login)
     return own if who in (people.person_of(login), people.owner_of(login)) else f"{who}, login {own}"
-
-
-def who_and_second(office: Office, who: str, login: str, approved: str) -> str:
-    """Who did something, and who approved it, if somebody had to."""
-    second = f", approved by {office.people.in_words(approved)}" if approved else ""
-    return f"{who_did(office, who, login)}{second}"

@@ -61,7 +61,7 @@ def part_at(office: Office, handed_in: HandedIn, word: str) -> Part:
         raise WordsFault(f"{word}: expected {expected}")
     if not approvals.needs_second(office, part):
         raise WordsFault(f"place {word} does not wait for another login")
-    must_be_other(office, (COMMAND_OF[part.kind],), part.who, part.login)
+    must_be_other(office, approvals.commands_for(office, part, office.login), part.who, part.login)
     if not handed_in.left_of(part):
         raise WordsFault(f"place {part.start} was taken back")
     return part

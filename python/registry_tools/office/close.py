@@ -18,7 +18,6 @@ from registry_tools.office.composing import NextDay
 from registry_tools.office.handed import HandedIn, Part
 from registry_tools.office.office import By, Office
 from registry_tools.office.program import named_program
-from registry_tools.pairs.settling import Engine
 from registry_tools.office.waits import waits_text
 from registry_tools.pairs.compliance import compliant_share, last_year_over, standing_of, years_over
 from registry_tools.pairs.verify import expected_rows, first_difference, settled_again
@@ -33,6 +32,7 @@ from registry_tools.texts.in_words import grouped
 from registry_tools.texts.report import Report, report_of
 from registry_tools.texts.rows import rows_of_text
 from registry_tools.texts.runs import unlike
+from registry_tools.texts.settler import SECOND_ANSWER, Engine
 
 # An instruction that closes an account.
 CLOSES = re.compile(rb"^do,.*,status,[0-9]+,closed$", re.MULTILINE)
@@ -166,7 +166,7 @@ def settle(office: Office, composed: NextDay, by_second: bool, verifies: bool = 
     day = composed.day(voice.path(f"{office.store.path}/{composed.date}/day.csv"))
     program = "" if by_second else named_program(office)
     text = settling.by_rules(day) if by_second else settling.by_engine(program, composed.text)
-    engine = settling.SECOND_ANSWER if by_second else settling.engine_of(program)
+    engine = SECOND_ANSWER if by_second else settling.engine_of(program)
     whose = "the second answer" if by_second else program or "the program"
     source = rows_of_text(f"the report of {whose}", text.decode("utf-8", "surrogateescape"))
     report = report_of(source, day)

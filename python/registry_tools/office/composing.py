@@ -120,7 +120,7 @@ def last_day(office: Office) -> Event:
 
 def last_pair(office: Office, has_book: bool = True) -> tuple[DayText, Report]:
     """The last day of a folder, and its report; without the accounts before the day, if nobody asks for them."""
-    return past.read(past.pair_of(office.store, last_day(office)), None, has_book)
+    return past.read(office.store.pair_of(last_day(office)), None, has_book)
 
 
 def filed_calendar(office: Office, event: Event) -> list[datetime.date]:
@@ -189,7 +189,7 @@ def later_day(office: Office, handed_in: HandedIn, date: datetime.date) -> NextD
     contents, name = handed_in.contents(), voice.path(f"{office.store.path}/next")
     merged = Merged(name, handed_in)
     try:
-        composed = later_text(day, report, date, contents, past.kept(office.store, last, "waiting"), name)
+        composed = later_text(day, report, date, contents, office.store.kept(last, "waiting"), name)
     except FileFault as fault:
         if str(fault.path).startswith(f"{name}/"):
             item, _ = merged.item(str(fault.path), fault.line)

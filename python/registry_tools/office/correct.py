@@ -86,7 +86,8 @@ def correct(office: Office, by: By, asked: Correct) -> Corrected | Shown | tuple
     or if a reversal would name another record, and a fault if a day can't be closed so: `behind` says if it is a later
     day than the corrected one."""
     if not asked.without and not asked.files:
-        raise WordsFault("nothing to correct: --without RECORD or --with FILE says what is wrong")
+        ways = voice.either("--without RECORD or --with FILE", "a record that is left out, or a file,")
+        raise WordsFault(f"nothing to correct: {ways} says what is wrong")
     with office.changing("correct", by) if asked.yes else office.trying("correct", by):
         must_be_open(office, asked.date, asked.without)
         added = [incoming.read(each) for each in asked.files]
@@ -139,7 +140,7 @@ def law_of(office: Office, record: int) -> list[str]:
     event = next((own for own in office.events.days if own.first <= record < own.next), None)
     if event is None:
         return []
-    day, report = past.read(past.pair_of(office.store, event))
+    day, report = past.read(office.store.pair_of(event))
     logged = report.log[record - event.first]
     if not logged.is_done:
         return [f"record {record} needs none: it was refused"]
@@ -177,7 +178,7 @@ class Correction:
         self.waits = waits_of(self.office)
         self.days = [event for event in self.all_days if event.date >= self.asked.date]
         self.filed = [handed.for_a_day(store, event) for event in self.days]
-        self.before = [*past.read_all([past.pair_of(store, event) for event in self.days])]
+        self.before = [*past.read_all([store.pair_of(event) for event in self.days])]
         for record in self.asked.without:
             self.logged(record)
 
@@ -188,15 +189,16 @@ class Correction:
                 return event, past_day.report.log[record - event.first]
         first, last = self.days[0], self.days[-1]
         there = f"{first.date} has the records {first.first} to {first.next - 1}"
-        raise WordsFault(f"--without {record}: {there}, and the days behind it have them up to {last.next - 1}")
+        said = voice.option("without", record)
+        raise WordsFault(f"{said}: {there}, and the days behind it have them up to {last.next - 1}")
 
     def waited(self, record: int) -> str:
         """That a record waited since an earlier day, and the words by which it is left out of that one."""
         event, logged = self.logged(record)
         row = logged.instruction.row
-        said = f"--without {record}: it waited since an earlier day, which it was handed in for: {row}"
+        said = f"{voice.option('without', record)}: it waited since an earlier day, which it was handed in for: {row}"
         for earlier in reversed([own for own in self.all_days if own.date < event.date]):
-            _, report = past.read(past.pair_of(self.office.store, earlier))
+            _, report = past.read(self.office.store.pair_of(earlier))
             waited = [own.record for own in report.log if own.name == NOT_DUE and own.instruction.row == row]
             if waited:
                 return f"{said}; {voice.command('correct', earlier.date, '--without', waited[0])} leaves it out"

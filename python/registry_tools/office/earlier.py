@@ -1,18 +1,23 @@
 """What a folder has had before: instructions and what came of them, accounts, and files, of all settled days."""
 import re
+from collections import defaultdict
 from collections.abc import Iterator
 from dataclasses import dataclass
 
 from registry_tools import voice
-from registry_tools.calendars.due_days import NOT_DUE
 from registry_tools.office import handed
-from registry_tools.office.handed import CHANGES, DO, begins_item
+from registry_tools.office.handed import CHANGES, begins_item
 from registry_tools.office.office import Office
 from registry_tools.store.events import HANDED, Event
 from registry_tools.texts.rows import rows_of_text
 
 # A log row: its record number, the fields of the instruction, and for a refused one the name of the check.
 LOGGED = re.compile(r"log,([0-9]+),[^,]*,(.*?),(?:done|refused,[^,]*,([^,]*))(?:,.*)?")
+# What settled days had of an account that was proposed on one of some dates.
+OF_ACCOUNT = (
+    "SELECT DISTINCT date, proposed, CAST(proposer AS TEXT), act FROM instructions"
+    " WHERE account = ? AND proposed BETWEEN ? AND ?"
+)
 
 
 @dataclass(frozen=True)
@@ -31,22 +36,28 @@ class Had:
 
 def instructions_had(office: Office, rows: set[str]) -> dict[str, Had]:
     """Which of these `do` rows settled days have had, and what came of them: done on some day, or else refused by the
-    last that had it. Logs are read of days that have one of them, or take up what an earlier day refused as not due; of
-    the first day always, whose text has instructions of its own."""
+    last that had it. Logs are read of days alone that may have one of them."""
     found: dict[str, Had] = {}
-    for place, event in enumerate(office.events.days):
-        there = rows & rows_given(office, event) if place else rows
-        waited = {row for row, had in found.items() if had.refused == NOT_DUE}
-        for row, had in logged_of(office, event, there | waited):
+    asked = dates_of(office, rows)
+    for event in office.events.days:
+        for row, had in logged_of(office, event, asked.get(str(event.date), set())):
             if row not in found or found[row].refused:
                 found[row] = had
     return found
 
 
-def rows_given(office: Office, event: Event) -> set[str]:
-    """The `do` rows that were handed in for a day."""
-    own = handed.for_a_day(office.store, event)
-    return {row for part in own.parts if part.kind == DO for row in own.rows(part).rows}
+def dates_of(office: Office, rows: set[str]) -> dict[str, set[str]]:
+    """The dates of settled days that may have had some of these `do` rows, and which: days that had an instruction of
+    the same account, act, proposer and date."""
+    by_account, found = defaultdict[str, list[tuple[str, ...]]](list), defaultdict[str, set[str]](set)
+    for row in rows:
+        _, proposed, proposer, _, act, account, *_ = row.split(",")
+        by_account[account].append((proposed, proposer, act, row))
+    for account, own in by_account.items():
+        dates = [each[0] for each in own]
+        for date, *like in office.store.tables.execute(OF_ACCOUNT, (account, min(dates), max(dates))):
+            found[date] |= {each[-1] for each in own if each[:-1] == tuple(like)}
+    return found
 
 
 def logged_of(office: Office, event: Event, rows: set[str]) -> Iterator[tuple[str, Had]]:

@@ -3,19 +3,14 @@ from collections.abc import Iterator
 from dataclasses import dataclass
 
 from registry_tools import voice
-from registry_tools.errors import FileFault, WordsFault, shown
+from registry_tools.errors import WordsFault, shown
 from registry_tools.notes import LOOK
 from registry_tools.office import approvals, composing
 from registry_tools.texts import labels
-from registry_tools.office.incoming import Given, TableFault, text_handed_in
-from registry_tools.texts.labels import ACCOUNT, COLUMNS, HOLDER, KINDS, USER, Label, Labels
+from registry_tools.texts.labels import ACCOUNT, HOLDER, KINDS, USER, Label, Labels, as_looked_up
 from registry_tools.office.office import By, Office
-from registry_tools.sheets import importing, mapping as mappings, sheets
-from registry_tools.sheets.mapping import Mapping
-from registry_tools.sheets.table import Table
 from registry_tools.store.events import LABELLED, now
-from registry_tools.texts.in_words import as_looked_up
-from registry_tools.texts.rows import packed_bytes_of, rows_of_text
+from registry_tools.texts.rows import rows_of_text
 
 # So many slips are told one by one.
 MOST_TOLD = 20
@@ -75,47 +70,6 @@ def wrong_part(label: Label, may_lack: bool) -> tuple[str, str]:
     if not label.name:
         return "", "" if may_lack else "a name"
     return label.name, labels.wrong_name(label.name)
-
-
-def names_in(own: Given, mapping: str | None) -> Iterator[Label]:
-    """The names of a file: rows as labels.csv has them, or a table."""
-    path, content = own.told, packed_bytes_of(own.path)
-    start = content[: len(max(KINDS, key=len)) + 4].decode("utf-8-sig", "replace")
-    if mapping is None and start.lstrip().startswith(tuple(f"{kind}," for kind in KINDS)):
-        source = rows_of_text(path, text_handed_in(own, content).decode("utf-8-sig", "surrogateescape"))
-        for place, label in enumerate(labels.rows_in(source)):
-            tidy = label._replace(name=labels.tidy(label.name))
-            found, expected = wrong_part(tidy, may_lack=True)
-            if expected:
-                raise source.fault(place, "NAME", shown(found), expected)
-            yield tidy
-        return
-    known = mappings.read(mapping, COLUMNS) if mapping is not None else Mapping()
-    table = Table(sheets.read_content(path, content), COLUMNS, None, known)
-    made = [*importing.found_in(names_of_table(table))]
-    wrong = [own for own in made if isinstance(own, FileFault)]
-    if wrong:
-        raise TableFault(path, wrong, "no name was changed")
-    yield from (own for own in made if isinstance(own, Label))
-
-
-def names_of_table(table: Table) -> Iterator[Label | FileFault]:
-    """The name of each row, or what is wrong with it."""
-    wrong = [*table.wrong_heading()]
-    yield from wrong
-    there: dict[tuple[str, str], int] = {}
-    for number, own in () if wrong else table.rows():
-        said = table.with_always(own)
-        label = Label(said.get("kind", ""), said.get("number", ""), labels.tidy(said.get("name", "")))
-        found, expected = wrong_part(label, may_lack="name" in table.columns)
-        name = next((name for name in COLUMNS if said.get(name, "") == found), "name")
-        first = there.setdefault(label[:2], number)
-        if expected:
-            yield table.fault(number, name, shown(found), expected)
-        elif first != number:
-            yield table.fault(number, "number", shown(label.number), f"another {label.kind} than in row {first + 1}")
-        else:
-            yield label
 
 
 # Keeping it.

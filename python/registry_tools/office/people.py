@@ -4,6 +4,8 @@ do.
   [people]
   anna = Anna Berg: hand in, change     login = NAME: what this person may do, or `all` of it
   desk = The desk: proxy                a desk behind a proxy, which says for whom it works
+  eva = Eva Nord: holder 5501, user 5102    somebody outside, who sees the accounts of this holder alone at the desk
+                                            (holders/), and asks and approves there as this user and no other
   [four eyes]
   commands = change, close              what counts only if another login approves it (office/approvals.py)
 
@@ -13,8 +15,7 @@ DESK:LOGIN."""
 import configparser
 import os
 import pwd
-import socket
-import struct
+import re
 from collections.abc import Collection
 from dataclasses import dataclass, field
 from pathlib import Path
@@ -28,10 +29,13 @@ SECTION, FOUR_EYES, COMMANDS = "people", "four eyes", "commands"
 HAND_IN, CHANGE, CLOSE, RELEASE, LOOK, PROXY = RIGHTS = ("hand in", "change", "close", "release", "look", "proxy")
 ALL = "all"
 OF_ALL = frozenset({HAND_IN, CHANGE, CLOSE, RELEASE, LOOK})
+# To whom a login is tied; and what it alone may do, and nothing else.
+HOLDER, USER, OWN = "holder", "user", "own"
+TIED = re.compile(f"({HOLDER}|{USER}) ([1-9][0-9]{{0,8}})")
 # The right that each command needs; another one that changes a folder needs that its login is named.
 RIGHT_OF = {
     "hand-in": HAND_IN, "change": CHANGE, "label": CHANGE, "init": CHANGE, "close": CLOSE,
-    "undo": CLOSE, "correct": CLOSE, "mend": CLOSE, "release": RELEASE,
+    "undo": CLOSE, "correct": CLOSE, "release": RELEASE, OWN: HOLDER,
 }  # fmt: skip
 # Who files or undoes a day passes on what is left there.
 PASSES = "close"
@@ -54,7 +58,14 @@ class Person:
 
     def may(self, command: str) -> bool:
         """Whether this person may give a command."""
+        if self.tied_to(HOLDER):
+            return command == OWN
         return command not in RIGHT_OF or RIGHT_OF[command] in self.rights
+
+    def tied_to(self, kind: str) -> int | None:
+        """The holder, or the user, to which this person is tied, if they are."""
+        found = (TIED.fullmatch(right) for right in self.rights)
+        return next((int(own[2]) for own in found if own and own[1] == kind), None)
 
 
 @dataclass(frozen=True)
@@ -129,12 +140,6 @@ def login_of(uid: int) -> str:
         return f"user {uid}"
 
 
-def user_at(own: socket.socket) -> int:
-    """The user of the system at the other end of a connection."""
-    _, user, _ = struct.unpack("iII", own.getsockopt(socket.SOL_SOCKET, socket.SO_PEERCRED, struct.calcsize("iII")))
-    return int(user)
-
-
 def system_login() -> str:
     """The login of whoever started this process: of its real user, whatever rights it has beside."""
     return login_of(os.getuid())
@@ -171,8 +176,8 @@ def must_be_allowed(people: People, login: str, command: str) -> None:
     if person is None:
         why = f"{person_of(login)} is no login that {SETTINGS} names under [{SECTION}]"
         raise RightsFault(why, ": nothing was done")
-    right, others = RIGHT_OF[command], people.others_for((command,), login)
-    may = ", ".join(own for own in RIGHTS if own in person.rights)
+    right, others = RIGHT_OF.get(command, command), people.others_for((command,), login)
+    may = ", ".join(own for own in (*RIGHTS, *sorted(person.rights - {*RIGHTS})) if own in person.rights)
     who = f"{' or '.join(others)} may" if others else "nobody may"
     raise RightsFault(f"{person} may {may}, and not {right}: {SETTINGS} says so; {who}")
 
@@ -194,8 +199,11 @@ def person_named(path: Path, login: str, words: str) -> Person:
     said = frozenset(own.strip() for own in rights.split(","))
     # (a line that is indented goes on with the one above it: the rights of one would be those of another)
     is_line = all(letter.isprintable() or "\ud800" <= letter <= "\udfff" for letter in login + name)
-    if not colon or not name or not said <= {*RIGHTS, ALL} or SPEAKS_FOR in login or not is_line:
-        expected = f"NAME: and behind it some of {', '.join(RIGHTS)}, or {ALL}, in a line that begins with the login"
+    is_tied = [own[1] for own in map(TIED.fullmatch, sorted(said)) if own] in ([HOLDER], [HOLDER, USER])
+    is_known = len(said) <= 2 and all(map(TIED.fullmatch, said)) if is_tied else said <= {*RIGHTS, ALL}
+    if not colon or not name or not is_known or SPEAKS_FOR in login or not is_line:
+        some = f"some of {', '.join(RIGHTS)}, or {ALL}, or {HOLDER} NUMBER, {USER} NUMBER"
+        expected = f"NAME: and behind it {some}, in a line that begins with the login"
         raise FileFault(path, 0, "".join(map(visible, login)), shown(words), expected)
     return Person(login, name, (said - {ALL}) | OF_ALL if ALL in said else said)
 

@@ -1,15 +1,14 @@
 """Says that others know of a day of a folder now: from then on it is not undone any more, and no day before it."""
 import datetime
-from collections.abc import Iterator
 from dataclasses import dataclass
 
 from registry_tools import voice
 from registry_tools.errors import WordsFault
 from registry_tools.office import approvals
-from registry_tools.pairs import settling
 from registry_tools.office.approvals import AskedFor
 from registry_tools.office.office import By, Office
 from registry_tools.store.events import RELEASED, Event
+from registry_tools.texts import settler
 
 
 @dataclass(frozen=True)
@@ -67,17 +66,9 @@ def made_known(office: Office, filed: Event, why: str) -> Released | AskedFor:
     return Released(office.add(RELEASED, why=why, approved=approved, **said))
 
 
-def days_told(office: Office) -> Iterator[tuple[Event, str, str]]:
-    """The days of a folder, the last one first, each with what settled it and whether others know of it, in words."""
-    released = {event.date for event in office.events.all if event.what == RELEASED}
-    last = max(released, default=datetime.date.min)
-    for filed in reversed(office.events.days):
-        yield filed, str(settling.engine_named(filed.engine) or "not told"), "yes" if filed.date <= last else "no"
-
-
 def doubt_of(filed: Event) -> str:
     """Why nothing proves the report of a day, in words; nothing, if a proved engine settled it."""
-    engine = settling.engine_named(filed.engine)
+    engine = settler.engine_named(filed.engine)
     if engine is None:
         return "was settled before the journal told by which engine, or by one that it does not name"
     return "" if engine.is_proved else f"was settled by {engine}"

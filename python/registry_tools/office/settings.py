@@ -58,11 +58,15 @@ def words_of(is_so: bool) -> str:
 
 def read(path: Path) -> Settings:
     """The settings of a folder. Raises FileFault if they are none."""
-    parser = configparser.ConfigParser(interpolation=None)
     try:
-        text = opening.read(path).decode("utf-8-sig", "surrogateescape")
+        return read_text(path, opening.read(path).decode("utf-8-sig", "surrogateescape"))
     except OSError as error:
         raise of_file(path, f"it cannot be read: {error.strerror}") from None
+
+
+def read_text(path: Path, text: str) -> Settings:
+    """The settings that a text says."""
+    parser = configparser.ConfigParser(interpolation=None)
     try:
         parser.read_string(text, str(path))
     except configparser.Error as error:

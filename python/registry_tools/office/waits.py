@@ -5,7 +5,6 @@ from registry_tools.calendars.due_days import due_day_after, head_after
 from registry_tools.notes import Notes
 from registry_tools.pairs import next as next_day
 from registry_tools.office.office import Office
-from registry_tools.store import past
 from registry_tools.texts import pending
 from registry_tools.texts.day_text import DayText
 from registry_tools.texts.report import Report
@@ -15,16 +14,16 @@ def waits_of(office: Office) -> list[pending.Waiting]:
     """What waits behind the last day, with its due days: it comes into a text by itself. It is kept when that day is
     filed."""
     last = office.last()
-    return pending.read_waits(past.kept(office.store, last, "waits")) if last else []
+    return pending.read_waits(office.store.kept(last, "waits")) if last else []
 
 
 def waiting_behind(office: Office, date: datetime.date) -> list[pending.Waiting]:
     """What waited behind a settled day: the text of the next one says it, or what is kept with the last one."""
     later, last = next((event for event in office.events.days if event.date > date), None), office.last()
     if later:
-        path = past.kept(office.store, later, "waiting")
+        path = office.store.kept(later, "waiting")
     elif last:
-        path = past.kept(office.store, last, "waits")
+        path = office.store.kept(last, "waits")
     else:
         return []
     return [own for own, _ in pending.read_pending(path).rows]

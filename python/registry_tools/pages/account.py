@@ -113,7 +113,7 @@ def trusted_parts(settled: Settled, account: rules.Account) -> Iterator[Markup]:
     yield TRUSTED.of("Accounts that this account trusts", rows)
 
 
-def retired_parts(settled: Settled, account: rules.Account) -> Iterator[Markup]:
+def retired_parts(settled: Settled, account: rules.Account, statement: Statement) -> Iterator[Markup]:
     """The surrenders and deletions; if there are several periods, with that of each surrender."""
     if not account.rows:
         return
@@ -126,7 +126,8 @@ def retired_parts(settled: Settled, account: rules.Account) -> Iterator[Markup]:
         )
         for number, row in account.rows.items()
     )  # fmt: skip
-    yield own.of("All surrenders and deletions of the account", [row[: len(own.columns)] for row in rows])
+    told = "All surrenders and deletions of the account"
+    yield statement.table(own, told, [row[: len(own.columns)] for row in rows])
 
 
 def users_parts(account: rules.Account, statement: Statement) -> Iterator[Markup]:
@@ -159,21 +160,21 @@ def entry_parts(statement: Statement) -> Iterator[Markup]:
         yield from statement.kind_parts(kind)
     if statement.others:
         yield heading("Other entries")
-        yield OTHERS.of("Entries that move no allowances", statement.others)
+        yield statement.table(OTHERS, "Entries that move no allowances", statement.others)
 
 
 def refused_parts(statement: Statement) -> Iterator[Markup]:
     """What was refused, if something was."""
     if statement.refused:
         yield heading("Refused")
-        yield REFUSED.of("Instructions that were refused", statement.refused)
+        yield statement.table(REFUSED, "Instructions that were refused", statement.refused)
 
 
 def waited_parts(statement: Statement) -> Iterator[Markup]:
     """What was not due on its day, if something was."""
     if statement.waited:
         yield heading("Not due on its day")
-        yield WAITED.of("Each is entered again by itself on its due day", statement.waited)
+        yield statement.table(WAITED, "Each is entered again by itself on its due day", statement.waited)
 
 
 def waiting_parts(statement: Statement) -> Iterator[Markup]:
@@ -181,7 +182,8 @@ def waiting_parts(statement: Statement) -> Iterator[Markup]:
     waiting = [*statement.waiting()]
     if waiting:
         yield heading("Waiting for their due day")
-        yield WAITING.of("These are entered again on their due day, with their old dates of proposal", waiting)
+        told = "These are entered again on their due day, with their old dates of proposal"
+        yield statement.table(WAITING, told, waiting)
 
 
 def standing_parts(settled: Settled, account: rules.Account, statement: Statement) -> Iterator[Markup]:
@@ -190,7 +192,7 @@ def standing_parts(settled: Settled, account: rules.Account, statement: Statemen
         yield from history_parts(statement)
     if account.kind in rules.OPERATORS:
         yield from years_parts(settled, account)
-    yield from retired_parts(settled, account)
+    yield from retired_parts(settled, account, statement)
     yield from trusted_parts(settled, account)
     yield from users_parts(account, statement)
 

@@ -153,7 +153,8 @@ def parts_of(settled: Settled, statement: LetterStatement) -> Iterator[Markup]:
     yield from refused_parts(statement)
     if statement.done_later:
         yield heading("Done later")
-        yield DONE_LATER.of("These were not done when they were asked for, and were done later", statement.done_later)
+        told = "These were not done when they were asked for, and were done later"
+        yield statement.table(DONE_LATER, told, statement.done_later)
     yield from entry_parts(statement)
     yield from standing_parts(settled, account, statement)
 

@@ -1,7 +1,7 @@
 """What a statement tells of an account: what came in and went out on its days, what was refused, and what waited and
 waits."""
 import datetime
-from typing import Callable, Iterator, Mapping, Protocol, Sequence
+from typing import Callable, Iterable, Iterator, Mapping, Protocol, Sequence
 
 from registry_tools.calendars.due_days import NOT_DUE
 from registry_tools.pages.html import Cells, Markup, Table, heading, paragraph
@@ -182,6 +182,10 @@ class Statement:
 
     # Parts of the page.
 
+    def table(self, own: Table, caption: object, rows: Iterable[Cells], foot: Sequence[Cells] = ()) -> Markup:
+        """A table of the page, with all its columns."""
+        return own.of(caption, rows, foot)
+
     def kind_parts(self, kind: str) -> Iterator[Markup]:
         """The entries of a kind of allowance, with the balance."""
         entries = self.entries[kind]
@@ -192,7 +196,8 @@ class Statement:
             return
         first = (self.first_day, "", "Balance before the day", "", "", "", grouped(before))
         last = (self.settled.head.date, "", "Balance after the day", "", "", "", grouped(after))
-        yield ENTRIES.of(f"{kind.capitalize()} allowances: in, out and balance", [first, *entries], [last])
+        caption = f"{kind.capitalize()} allowances: in, out and balance"
+        yield self.table(ENTRIES, caption, [first, *entries], [last])
 
     def waiting(self) -> Iterator[Cells]:
         """What waits of this account, with its due day."""

@@ -7,7 +7,8 @@ from dataclasses import dataclass
 from registry_tools.calendars.deadlines import DueDates
 from registry_tools.office import close
 from registry_tools.pages.settled import long_date
-from registry_tools.questions.due import OVERDUE, SURRENDER_FOR, deadlines
+from registry_tools.pairs.compliance import standings
+from registry_tools.questions.due import OVERDUE, SURRENDER_FOR, Stand, deadlines
 from registry_tools.texts.day_text import DayText
 from registry_tools.texts.in_words import grouped
 from registry_tools.texts.labels import Labels
@@ -28,11 +29,11 @@ class Task:
         return f"{when}{self.what} (account {self.account})."
 
 
-def tasks_of(due: DueDates, day: DayText, report: Report) -> dict[int, list[Task]]:
+def tasks_of(due: DueDates, day: DayText, report: Report, ask: Stand = standings) -> dict[int, list[Task]]:
     """What is to be done for each account behind a day: by the deadlines of the office, and what is missing without
-    one; what is overdue first."""
+    one; what is overdue first. `ask` says how the accounts stand."""
     found: dict[int, list[Task]] = defaultdict(list)
-    for own in deadlines(due, day, report, Labels()):
+    for own in deadlines(due, day, report, Labels(), ask):
         if own.account is not None:
             found[own.account].append(Task(own.account, own.todo, own.date, own.what == OVERDUE))
     for task in [] if due.surrender else without_deadline(day, report):

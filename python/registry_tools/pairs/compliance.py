@@ -110,7 +110,7 @@ def standing_of(head: rules.Day, account: rules.Account, year: int, entries: Ent
     first = head.periods[period - 1][0]
     years = range(first, year + 1)
     figure, determined = head.figure(account, year), account.figures.get(year)
-    emitted = sum(account.emissions.get(each, 0) for each in years)
+    emitted = sum([account.emissions.get(each, 0) for each in years])
     have_changed = entries.have_changed(account.number, first, year) if entries else None
     if have_changed is None:
         have_changed = determined is not None and not was_once_right(account, period, determined, emitted)
@@ -123,8 +123,13 @@ def standing_of(head: rules.Day, account: rules.Account, year: int, entries: Ent
 def standings(day: DayText, report: Report, year: int) -> Iterator[Standing]:
     """How each operator and aircraft operator stands, rising by account. Raises FileFault if the library was built, and
     determines other figures than the report has."""
-    period_of(day.head, year)
     confirm_figures(day, report)
+    yield from standings_alone(day, report, year)
+
+
+def standings_alone(day: DayText, report: Report, year: int) -> Iterator[Standing]:
+    """The same, without comparing the figures of all accounts: a report may have some accounts alone."""
+    period_of(day.head, year)
     entries = Entries(day, report)
     for block in progress.over(report.book.values(), "looking at the accounts", len(report.book)):
         if block.kind in rules.OPERATORS:

@@ -1,19 +1,11 @@
-"""Settles a day text: by a program, by the library, or by the second answer (tools/rules.py); and says which engine it
-was, for the journal: as five words, such as `program 1.0 2cc76628abcd proved`, and a SHA-256 behind them.
-
-  program, library, second   what settled the day
-  its version                of the program; - if nothing tells it
-  the commit of its sources  with a + behind it if they had changes; - if nothing tells it
-  proved, unproved           whether its bytes were proved, by the note of its build
-  the SHA-256 of its bytes   - of the second answer, and in journals of before
-"""
+"""Settles a day text: by a program, by the library, or by the second answer (tools/rules.py); and finds out which of
+them it was."""
 import os
 import re
 import shutil
 import subprocess
 from collections.abc import Iterator
 from pathlib import Path
-from typing import NamedTuple
 
 from registry_tools import engine, installed, proof, voice
 from registry_tools.engine import NotSettled, find_library, run_settle, tell_once
@@ -22,6 +14,7 @@ from registry_tools.progress import progress
 from registry_tools.pairs.verify import expected_rows
 from registry_tools.texts.day_text import DayText
 from registry_tools.texts.rows import text_of_rows
+from registry_tools.texts.settler import LIBRARY, PROGRAM, PROVED, UNKNOWN, UNPROVED, Engine, engine_named
 
 RUN = installed.SCRIPT
 # What ./run starts: the program that was proved, with its note, or a build that was not; and the note of a library.
@@ -29,51 +22,8 @@ BUILT, UNPROVED_BUILD = (RUN.parent / "out" / name for name in ("registry", "reg
 NOTE_OF_BUILT, NOTE_OF_LIBRARY = BUILT.with_name("registry.source"), "registry.source"
 BUILDS = "which builds the program first if it is not there"
 BY_RUN = f"{RUN}, {BUILDS}"
-PROGRAM, LIBRARY, SECOND = "program", "library", "second"
-PROVED, UNPROVED, UNKNOWN = "proved", "unproved", "-"
-IN_WORDS = {PROGRAM: "the program", LIBRARY: "the library", SECOND: "the second answer alone"}
 # How many seconds a program has to tell its version.
 MOST_SECONDS = 60
-
-
-class Engine(NamedTuple):
-    """What settled a day."""
-
-    what: str
-    version: str = UNKNOWN
-    commit: str = UNKNOWN
-    proof: str = UNPROVED
-    sum: str = UNKNOWN
-
-    def row(self) -> str:
-        """The words by which the journal names it."""
-        return " ".join(self)
-
-    @property
-    def is_proved(self) -> bool:
-        """Whether it was proved."""
-        return self.proof == PROVED
-
-    def __str__(self) -> str:
-        version = "" if self.version == UNKNOWN else f" {self.version}"
-        commit = "" if self.commit == UNKNOWN else f" of commit {self.commit.replace('+', ' with changes')}"
-        return f"{IN_WORDS.get(self.what, self.what)}{version}{commit}, {'' if self.is_proved else 'not '}proved"
-
-
-SECOND_ANSWER = Engine(SECOND)
-
-
-def engine_named(row: str) -> Engine | None:
-    """The engine that a line of the journal names, if it names one."""
-    words = row.split(" ")
-    # (the sum came later than the others)
-    return Engine(*words) if 0 <= len(Engine._fields) - len(words) <= 1 else None
-
-
-def is_proved(row: str) -> bool:
-    """Whether a line of the journal names a proved engine."""
-    own = engine_named(row)
-    return own is not None and own.is_proved
 
 
 def engine_of(named: str) -> Engine:

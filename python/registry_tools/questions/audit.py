@@ -17,11 +17,12 @@ from registry_tools.layout import SETTINGS
 from registry_tools.office.office import Office
 from registry_tools.progress import progress
 from registry_tools.questions.seams import Filed, Found, look_at_day, past_day_of
-from registry_tools.store import checks, daybook, events, file, past
+from registry_tools.store import checks, daybook, events, file
 from registry_tools.store.checks import Again
 from registry_tools.store.events import HANDED, Events
 from registry_tools.store.file import Store
 from registry_tools.store.texts import Texts, put_back
+from registry_tools.texts import settler
 
 NO_ENGINE_NAMED = "days for which the journal names no proved engine"
 OTHER_FOLDER = "look for the folder or the copy that has grown from there"
@@ -47,7 +48,7 @@ def audit(path: Path, asked: Audit) -> Found:
     with file.telling(place), contextlib.closing(file.connected(place)) as db:
         file.must_be_tables(db, place)
         store = Store(place, db, Texts(db, place), Events(place, []))
-        found = Found(Office(path, named, store), lambda event, column: past.kept(store, event, column))
+        found = Found(Office(path, named, store), store.kept)
         found.add(*checks.faults_of(db, place))
         with found.adding():
             for fault in events.faults_of(db, store.events):
@@ -169,7 +170,7 @@ def strange_days(found: Found) -> Iterator[FileFault]:
 
 def engines_told(there: Events, named: str) -> Iterator[str]:
     """How many days no proved engine has settled."""
-    days = [day for day in there.days if not settling.is_proved(day.engine)]
+    days = [day for day in there.days if not settler.is_proved(day.engine)]
     if days:
         said = voice.either("settled by no proved engine, as far as the journal says", NO_ENGINE_NAMED)
         yield f"{said}: {len(days)}, last {days[-1].date}"

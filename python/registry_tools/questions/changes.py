@@ -8,7 +8,7 @@ from registry_tools.office.handed import CHANGES, EDITS, HandedIn, Item
 from registry_tools.office.office import Office
 from registry_tools.showing import Cell
 from registry_tools.store import past
-from registry_tools.store.past import Pair
+from registry_tools.store.texts import Pair
 
 COLUMNS = tables.COLUMNS["changes"]
 NEXT, OF_RULES = "next day", "the rules"

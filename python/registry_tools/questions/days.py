@@ -10,10 +10,10 @@ from pathlib import Path
 
 from registry_tools import voice
 from registry_tools.errors import WordsFault, of_file
-from registry_tools.store import daybook
+from registry_tools.store import daybook, past
 from registry_tools.store.file import Store, telling
-from registry_tools.store import past
-from registry_tools.store.past import PastDay, Pair, pair_of, read_all
+from registry_tools.store.past import PastDay, read_all
+from registry_tools.store.texts import Pair
 from registry_tools.texts.rows import bytes_of, rows_of, sum_of
 
 
@@ -73,7 +73,7 @@ class Days:
 
 def of_store(store: Store) -> Days:
     """The days of a folder."""
-    pairs = {event.date: pair_of(store, event) for event in store.events.days}
+    pairs = {event.date: store.pair_of(event) for event in store.events.days}
     return Days(store.db, pairs, store.events.head)
 
 

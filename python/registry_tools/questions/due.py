@@ -3,7 +3,7 @@ what that is."""
 import contextlib
 import datetime
 from collections import Counter
-from typing import Iterator, NamedTuple
+from typing import Callable, Iterable, Iterator, NamedTuple
 
 from registry_tools import voice
 from registry_tools.calendars.deadlines import DueDates
@@ -17,6 +17,7 @@ from registry_tools.texts.labels import Labels
 from registry_tools.pairs.next import about_date
 from registry_tools.office.waits import waits_of
 from registry_tools.pairs.compliance import NO_EMISSIONS, SETTLED, Standing, standings, years_over
+from registry_tools.second import rules
 from registry_tools.showing import Cell
 from registry_tools.texts.day_text import DayText
 from registry_tools.texts.in_words import grouped, instruction_in_words
@@ -26,6 +27,8 @@ DEADLINE, OVERDUE, REVERSAL, LIST = "deadline", "overdue", "reversal ends", "lis
 WAITING, MISSED, CALENDAR = "waiting", "working day", "calendar ends"
 # What the holder of an account has to do of which so many allowances are missing for a year.
 SURRENDER_FOR = "Surrender {} allowances for {}"
+# What tells how operators stand for a year.
+Stand = Callable[[DayText, Report, int], Iterable[Standing]]
 # A year has deadlines in the next one: so those of these years, counted back from the last day, may still come.
 YEARS_BACK = (1, 0)
 
@@ -68,33 +71,47 @@ def folded(found: list[Due]) -> list[Due]:
 def due_until(office: Office, until: datetime.date) -> list[Due]:
     """All that is due from the last settled day up to a date, by rising date. Raises WordsFault if no day is settled,
     and FileFault if a text of it can't be read."""
-    day, report = composing.last_pair(office)
-    names = office.names()
-    known = deadlines(office.settings.due, day, report, names), of_rows(day, report, names), waiting(office, names)
-    every = (own for found in (*known, of_calendar(office)) for own in found if own.date <= until)
+    return with_calendar(office, until, of_days(office, *composing.last_pair(office)))
+
+
+def with_calendar(office: Office, until: datetime.date, known: list[Due]) -> list[Due]:
+    """The same, of what `of_days` tells and of the calendar."""
+    every = (own for found in (known, of_calendar(office)) for own in found if own.date <= until)
     return sorted(every, key=lambda own: (own.date, own.what, own.account or 0))
 
 
-def deadlines(dates: DueDates, day: DayText, report: Report, names: Labels) -> Iterator[Due]:
-    """By when operators have to do something about each year that is over, of all periods."""
+def of_days(office: Office, day: DayText, report: Report) -> list[Due]:
+    """What is due whatever is handed in: it is told by the last day, its report, what waits and the deadlines."""
+    names = office.names()
+    known = deadlines(office.settings.due, day, report, names), of_rows(day, report, names), waiting(office, names)
+    return [own for found in known for own in found]
+
+
+def deadlines(
+    dates: DueDates, day: DayText, report: Report, names: Labels, ask: Stand = standings
+) -> Iterator[Due]:
+    """By when operators have to do something about each year that is over, of all periods. `ask` says how the accounts
+    of the report stand."""
     for years in years_over(day.head):
-        yield from deadlines_of_period(years, dates, day, report, names)
+        yield from deadlines_of_period(years, dates, day.head, names, lambda year: ask(day, report, year))
 
 
-def deadlines_of_period(years: range, dates: DueDates, day: DayText, report: Report, names: Labels) -> Iterator[Due]:
+def deadlines_of_period(
+    years: range, dates: DueDates, head: rules.Day, names: Labels, ask: Callable[[int], Iterable[Standing]]
+) -> Iterator[Due]:
     """The same, of one period. Of its deadlines that are over the last one tells all: what is missing for a year, the
     years before it are missing, too. (What lacks for one period no other one makes good.)"""
     over: int | None = None
     for year in years:
         named = dates.surrender_of(year), dates.emissions_of(year)
-        surrender, emissions = (date if date and date >= day.head.date else None for date in named)
+        surrender, emissions = (date if date and date >= head.date else None for date in named)
         over = over if surrender or emissions or named == (None, None) else year
         if not surrender and not emissions:
             continue
-        for standing in standings(day, report, year):
+        for standing in ask(year):
             yield from of_standing(standing, surrender, emissions, names)
     if over is not None:
-        for standing in standings(day, report, over):
+        for standing in ask(over):
             late = of_standing(standing, dates.surrender_of(over), dates.emissions_of(over), names)
             yield from (own._replace(what=OVERDUE) for own in late)
 

@@ -5,7 +5,7 @@ from dataclasses import dataclass
 
 from registry_tools.calendars.due_days import NOT_DUE
 from registry_tools.questions.days import Days
-from registry_tools.questions.records import HOLDER_HAS, NAMING, SPAN, logged
+from registry_tools.questions.records import HOLDER_HAS, NAMING, SPAN, count_logged, logged
 from registry_tools.showing import Cell
 from registry_tools.texts.in_words import act_columns
 from registry_tools.texts.report import LogRow
@@ -29,18 +29,29 @@ class Find:
     end: datetime.date = datetime.date.max
 
 
-def find(days: Days, asked: Find) -> list[LogRow]:
-    """The log rows that are looked for, by rising record. Raises FileFault if a report can't be read that has one."""
+def find(days: Days, asked: Find, places: range | None = None) -> list[LogRow]:
+    """The log rows that are looked for, by rising record, or those of them at these places. Raises FileFault if a
+    report can't be read that has one."""
+    return [*logged(days, *asked_in_sql(asked), places)]
+
+
+def count_found(days: Days, asked: Find) -> int:
+    """How many log rows are looked for."""
+    return count_logged(days, *asked_in_sql(asked))
+
+
+def asked_in_sql(asked: Find) -> tuple[list[str], dict[str, object]]:
+    """The conditions of what is looked for, and their values."""
     where = {
         NAMING: asked.account is not None, HOLDER_HAS: asked.holder is not None, OF_USER: asked.user is not None,
         "i.act = :act": asked.act is not None, "NOT log.is_done": asked.is_refused,
         "log.name IS NOT :waiting": asked.has_no_waiting,
     }  # fmt: skip
-    values = {
+    values: dict[str, object] = {
         "account": asked.account, "holder": asked.holder, "user": asked.user, "act": asked.act, "waiting": NOT_DUE,
         "begin": str(asked.begin), "end": str(asked.end),
     }  # fmt: skip
-    return [*logged(days, [*(own for own, is_asked in where.items() if is_asked), *SPAN], values)]
+    return [*(own for own, is_asked in where.items() if is_asked), *SPAN], values
 
 
 def accounts_meant(days: Days, asked: Find) -> set[int]:

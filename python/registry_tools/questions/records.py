@@ -18,8 +18,8 @@ FIELDS = {act.word: act.fields.split() for act in ACTS}
 LOGGED = (
     "SELECT i.record, i.date, i.proposed, i.proposer, i.approver, i.act, i.account, i.other, i.kind, i.amount,"
     " i.reversed_record, i.status, i.year, i.tonnes, log.is_done, log.code, log.figure"
-    " FROM instructions AS i JOIN log ON log.record = i.record"
 )
+FROM_LOG = " FROM instructions AS i JOIN log ON log.record = i.record"
 SHARES = "SELECT receiver, amount FROM shares WHERE record = ? ORDER BY place"
 HELD = "SELECT account, general, aviation FROM held WHERE record = ?"
 # The records that name an account: as the first one, as the other one, or as one that receives.
@@ -33,14 +33,24 @@ HOLDER_HAS = NAMING.replace("= :account", "IN (SELECT account FROM accounts_by_d
 SPAN = ("i.date >= :begin", "i.date <= :end")
 
 
-def logged(days: Days, where: Sequence[str], values: Mapping[str, object]) -> Iterator[LogRow]:
-    """The log rows for which all conditions hold, by rising record, with what the accounts then held."""
-    asked = f"{LOGGED} WHERE {' AND '.join(where) or '1'} ORDER BY i.record"
+def logged(
+    days: Days, where: Sequence[str], values: Mapping[str, object], places: range | None = None
+) -> Iterator[LogRow]:
+    """The log rows for which all conditions hold, by rising record, with what the accounts then held; or those of them
+    at these places alone, counted from 0."""
+    part = "" if places is None else f" LIMIT {len(places)} OFFSET {places.start}"
+    asked = f"{LOGGED}{FROM_LOG} WHERE {' AND '.join(where) or '1'} ORDER BY i.record{part}"
     for row in days.database.execute(asked, values).fetchall():
         found = log_row_of(days, row)
         for number, *held in days.database.execute(HELD, row[:1]):
             found.held[number] = dict(zip(rules.KINDS, held))
         yield found
+
+
+def count_logged(days: Days, where: Sequence[str], values: Mapping[str, object]) -> int:
+    """How many log rows there are for which all conditions hold."""
+    asked = f"SELECT count(*){FROM_LOG} WHERE {' AND '.join(where) or '1'}"
+    return int(days.database.execute(asked, values).fetchone()[0])
 
 
 def log_row_of(days: Days, row: tuple[Any, ...]) -> LogRow:

@@ -9,7 +9,6 @@ from registry_tools.calendars.working_days import days_in_words
 from registry_tools.errors import FileFault
 from registry_tools.notes import LOOK, counted
 from registry_tools.office import approvals
-from registry_tools.pairs import settling
 from registry_tools.pairs import naming
 from registry_tools.office.handed import KINDS, HandedIn, Item
 from registry_tools.texts.labels import Labels
@@ -17,6 +16,7 @@ from registry_tools.office.office import Office
 from registry_tools.office.waits import waits_of
 from registry_tools.questions.due import missed_days, next_dates
 from registry_tools.showing import Cell
+from registry_tools.texts import settler
 
 # More of what was handed in, or waits, is only counted.
 MOST_SHOWN = 20
@@ -71,11 +71,7 @@ def faults_of_last(office: Office) -> Iterator[FileFault]:
     if last is None:
         return
     sources = (own.text for own in office.events.all if own.what == "source" and own.base == last.base)
-    for own in (last.text, last.report, last.waiting, last.waits, *sources):
-        try:
-            there.get(own)
-        except FileFault as fault:
-            yield fault
+    yield from filter(None, map(there.fault_of, (last.text, last.report, last.waiting, last.waits, *sources)))
 
 
 def rows_for_programs(office: Office, handed_in: HandedIn, faults: list[FileFault]) -> Iterator[list[Cell]]:
@@ -116,7 +112,7 @@ def last_lines(office: Office, handed_in: HandedIn) -> Iterator[tuple[str, str]]
     approved = f", approved by {office.people.in_words(last.approved)}" if last.approved else ""
     who = approvals.who_did(office, last.who, last.login)
     yield "last day", f"{last.date}, filed by {who} at {last.at}{approved}, {released}"
-    yield "settled by", str(settling.engine_named(last.engine) or NOBODY_KNOWS)
+    yield "settled by", str(settler.engine_named(last.engine) or NOBODY_KNOWS)
     yield "next record", str(last.next)
     yield "head", office.events.head
     today = datetime.date.today()

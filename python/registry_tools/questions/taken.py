@@ -1,4 +1,4 @@
-"""What was taken back of what was handed in: for the next day, and for settled days, into which it never came."""
+"""What was handed in for settled days, and what was taken back of that, and of what is there for the next day."""
 import datetime
 from collections.abc import Iterator
 from typing import NamedTuple
@@ -7,6 +7,10 @@ from registry_tools.office import approvals, handed
 from registry_tools.office.handed import HandedIn, Item, Part, Taken
 from registry_tools.office.office import Office
 from registry_tools.questions.changes import NEXT
+from registry_tools.store.events import RELEASED, Event
+from registry_tools.texts import settler
+
+FIRST_TEXT = "the first text, with instructions"
 
 
 class TakenBack(NamedTuple):
@@ -36,3 +40,27 @@ def of_all(office: Office) -> Iterator[tuple[str, TakenBack]]:
     for event in office.events.days:
         yield from ((str(event.date), own) for own in of_day(office, event.date))
     yield from ((NEXT, own) for own in of(approvals.handed_in_of(office)))
+
+
+def files_of(office: Office, event: Event) -> Iterator[tuple[str, str, str, str]]:
+    """What was handed in for a settled day: the name, what is left of it, who did so, and when."""
+    filed = handed.for_a_day(office.store, event)
+    seconds = {own.place: own.login for own in filed.approved}
+    for part in filed.parts:
+        left, who = len(filed.left_of(part)), who_and_second(office, part.who, part.login, seconds.get(part.start, ""))
+        of = "" if left == part.count else f" of {part.count}"
+        yield part.name, f"{handed.NAMES.get(part.kind, FIRST_TEXT)} {left}{of}", who, part.at
+
+
+def days_told(office: Office) -> Iterator[tuple[Event, str, str]]:
+    """The days of a folder, the last one first, each with what settled it and whether others know of it, in words."""
+    released = {event.date for event in office.events.all if event.what == RELEASED}
+    last = max(released, default=datetime.date.min)
+    for filed in reversed(office.events.days):
+        yield filed, str(settler.engine_named(filed.engine) or "not told"), "yes" if filed.date <= last else "no"
+
+
+def who_and_second(office: Office, who: str, login: str, approved: str) -> str:
+    """Who did something, and who approved it, if somebody had to."""
+    second = f", approved by {office.people.in_words(approved)}" if approved else ""
+    return f"{approvals.who_did(office, who, login)}{second}"

@@ -21,7 +21,7 @@ from registry_tools.output import new_folder
 from registry_tools.progress import progress
 from registry_tools.showing import as_csv
 from registry_tools.store.events import ALL, FILED, NO_DATE, Event
-from registry_tools.store.past import FILES
+from registry_tools.store.texts import FILES
 from registry_tools.texts.rows import sum_of
 
 SUMS, BY_HAND = "SHA256SUMS", "by-hand.csv"

@@ -2,6 +2,7 @@
 the check. It was written from the rules in words, and not from the program or its definitions."""
 import datetime
 import functools
+from dataclasses import dataclass, field
 from typing import Callable
 
 from registry_tools.second.days import HOLDERS, OPERATORS, Account, Day, Instruction, Row, known
@@ -22,6 +23,16 @@ OF_KINDS = {"surrender": OPERATORS, "emissions": OPERATORS, "assess": OPERATORS,
 NEEDS_STATUS = {"transfer": {"open"}, "delete": {"open"}, "assess": {"open", "blocked"}}
 NOT_CLOSED = {"open", "blocked", "excluded"}
 RETIRES_AS = {"surrender": "surrender", "delete": "deletion"}
+
+
+@dataclass(frozen=True)
+class Passing:
+    """What was found, in sentences; the fields of the instruction, by their names, that would pass the check; and the
+    first settlement day on which it would."""
+
+    found: str
+    fields: dict[str, int | str] = field(default_factory=dict)
+    date: datetime.date | None = None
 
 
 class Asked:

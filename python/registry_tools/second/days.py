@@ -111,7 +111,10 @@ class Day:
 
     def period_of(self, year: int) -> int | None:
         """The period that has a year, counted from 1; None if none has."""
-        return next((place for place, (first, last) in enumerate(self.periods, 1) if first <= year <= last), None)
+        for place, (first, last) in enumerate(self.periods, 1):
+            if first <= year <= last:
+                return place
+        return None
 
     def figure(self, account: Account, year: int) -> int | None:
         """The compliance status figure of a year in a period; None if emissions are missing, or if there is no such
@@ -120,10 +123,10 @@ class Day:
         if period is None:
             return None
         years = range(self.periods[period - 1][0], year + 1)
-        if any(each not in account.emissions for each in years):
+        emitted = [account.emissions[each] for each in years if each in account.emissions]
+        if len(emitted) < len(years):
             return None
-        emitted = sum(account.emissions[each] for each in years)
-        return account.surrendered_for(period) - emitted + account.corrections.get(period, 0)
+        return account.surrendered_for(period) - sum(emitted) + account.corrections.get(period, 0)
 
 
 def known(value: T | None) -> T:

@@ -2,11 +2,10 @@
 from docs/RULES.md, as the checks are; that what it names does pass, trials show by doing it."""
 import datetime
 from collections.abc import Callable, Iterable, Iterator
-from dataclasses import dataclass, field
 
 from registry_tools.second import checks
 from registry_tools.second.checks import (
-    BETWEEN, BY_ADMINISTRATORS, NEEDS_STATUS, NOT_CLOSED, OF_KINDS, RETIRES_AS, Asked,
+    BETWEEN, BY_ADMINISTRATORS, NEEDS_STATUS, NOT_CLOSED, OF_KINDS, RETIRES_AS, Asked, Passing,
 )  # fmt: skip
 from registry_tools.second.days import HOLDERS, Account, Day, Row, known
 from registry_tools.tables import ACTS, MOST_HELD, MOST_RETIRED, MOST_ROWS, MOST_TONNES, MOST_TRUSTED
@@ -14,16 +13,6 @@ from registry_tools.tables import ACTS, MOST_HELD, MOST_RETIRED, MOST_ROWS, MOST
 # So many of several are named; and what the first account of an act is called.
 MOST_NAMED = 5
 FIRST = {act.word: act.fields.partition(" ")[0].lower() for act in ACTS}
-
-
-@dataclass(frozen=True)
-class Passing:
-    """What was found, in sentences; the fields of the instruction, by their names, that would pass the check; and the
-    first settlement day on which it would."""
-
-    found: str
-    fields: dict[str, int | str] = field(default_factory=dict)
-    date: datetime.date | None = None
 
 
 def passing(asked: Asked, name: str) -> Passing:

@@ -12,10 +12,9 @@ from typing import Iterable, Iterator
 
 from registry_tools import tables
 from registry_tools.second.checks import (
-    BETWEEN, BY_ADMINISTRATORS, CHECKS, LEAVES, OF_KINDS, RETIRES_AS, Asked, asked_for, name_of, not_due,
+    BETWEEN, BY_ADMINISTRATORS, CHECKS, LEAVES, OF_KINDS, RETIRES_AS, Asked, Passing, asked_for, name_of, not_due,
     outside_calendar, unknown_account,
 )  # fmt: skip
-from registry_tools.second.passing import Passing, passing
 from registry_tools.second.days import (
     HOLDERS, KINDS, OPERATORS, Account, Day, Instruction, Row, account_of, day_in, day_of_fields, fields_in, known,
     read_instruction,
@@ -89,6 +88,9 @@ class Logged:
 def settle(day: Day, tells: bool = False) -> Iterator[Logged]:
     """Settles the instructions one after another, and gives their log rows. `tells`: also what was found where one is
     refused, and what would pass."""
+    if tells:
+        # (most who settle a day ask for no more)
+        from registry_tools.second.passing import passing
     for record, i in enumerate(day.instructions, day.next_record):
         asked = Asked(day, i)
         due = None if unknown_account(asked) else asked.due()

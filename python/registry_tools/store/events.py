@@ -5,7 +5,6 @@ The line of an event is the SHA-256 of `json_array(before, what, at, ..)`, as SQ
 and `line`. schema.sql says what each kind of event has."""
 import bisect
 import datetime
-import functools
 import json
 import sqlite3
 from collections.abc import Iterator
@@ -73,15 +72,6 @@ class Event:
         """Of something handed in, the event that handed it in first."""
         return self.id if self.of is None else self.of
 
-    @functools.cached_property
-    def values(self) -> tuple[object, ...]:
-        """What its columns have, in their order, without `id` and `line`."""
-        return self.before, *(value_of(name, getattr(self, name)) for name in COLUMNS)
-
-    def own_line(self) -> str:
-        """The sum of what it says with the line before it."""
-        return line_of(self.values)
-
 
 def line_of(values: tuple[object, ...]) -> str:
     """The line of an event, by all that its columns have between `id` and `line`. Raises TypeError or ValueError if
@@ -106,7 +96,7 @@ def value_of(name: str, value: object) -> object:
     if name in MAY_LACK:
         return value or None
     # (a line has no letter that nobody sees, and a name may be no UTF-8)
-    return "".join(map(visible, value)) if isinstance(value, str) else value
+    return "".join(map(visible, value)) if isinstance(value, str) and not value.isprintable() else value
 
 
 def event_of(row: sqlite3.Row | tuple[object, ...]) -> Event:
@@ -256,13 +246,10 @@ def does_not_follow(events: Events, event: Event) -> str:
 
 def add(db: sqlite3.Connection, events: Events, event: Event) -> Event:
     """Adds an event behind the others, in a change of the file, and answers it as it is kept."""
-    said = {own.name: getattr(event, own.name) for own in fields(Event)}
-    kept = {name: value_of(name, value) if isinstance(value, str) and name not in MAY_LACK else value
-            for name, value in said.items()}  # fmt: skip
-    number, base = len(events.all) + 1, events.base
-    behind = replace(Event(**kept), id=number, base=base, before=events.last_line, at=event.at or now())
-    own = replace(behind, line=behind.own_line())
+    behind = replace(event, at=event.at or now(), base=events.base)
+    values = events.last_line, *(value_of(name, getattr(behind, name)) for name in COLUMNS)
+    own = event_of((len(events.all) + 1, *values, line_of(values)))
     marks = ", ".join("?" * len(ALL))
-    db.execute(f"INSERT INTO events ({', '.join(ALL)}) VALUES ({marks})", (number, *own.values, own.line))
+    db.execute(f"INSERT INTO events ({', '.join(ALL)}) VALUES ({marks})", (own.id, *values, own.line))
     events.append(own)
     return own

@@ -21,7 +21,8 @@ from registry_tools.opening import LinkFault
 from registry_tools.output import BESIDE
 from registry_tools.store import events
 from registry_tools.store.events import Event, Events
-from registry_tools.store.texts import Texts
+from registry_tools.store.texts import FILES, Pair, Texts
+from registry_tools.texts.rows import KeptText
 
 NAME = "registry.sqlite"
 # 'REGD', by which `file` tells what this is; and the layout of the tables.
@@ -53,9 +54,23 @@ class Store:
     texts: Texts
     events: Events
 
+    @property
+    def tables(self) -> sqlite3.Connection:
+        """What has the tables of questions: the file, also in the block of `trying`."""
+        return self.texts.of_file().db
+
     def add(self, event: Event) -> Event:
         """Adds an event, in a change."""
         return events.add(self.db, self.events, event)
+
+    def kept(self, event: Event, column: str) -> KeptText:
+        """A text that an event has in a column, by the name under which faults tell it."""
+        own = getattr(event, column)
+        return KeptText(voice.path(f"{self.path}/{event.date}/{FILES[column]}"), lambda: self.texts.get(own))
+
+    def pair_of(self, event: Event) -> Pair:
+        """The pair of a day that an event filed."""
+        return Pair(self.kept(event, "text"), self.kept(event, "report"))
 
     @contextlib.contextmanager
     def change(self, wait: int = SHORT_WAIT) -> Iterator[None]:
@@ -88,7 +103,7 @@ class Store:
     @contextlib.contextmanager
     def trying(self) -> Iterator[None]:
         """What the block adds comes into memory alone, and is gone at its end: whoever only looks takes no lock of
-        those who write, so neither waits for the other. (Tables of questions are not read meanwhile.)"""
+        those who write, so neither waits for the other. (The tables of questions are those of the file.)"""
         before = self.db, self.texts, self.events
         with telling(self.path), contextlib.closing(sqlite3.connect(":memory:", isolation_level=None)) as memory:
             if not self.db.in_transaction:

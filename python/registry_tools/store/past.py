@@ -5,11 +5,9 @@ import functools
 from collections.abc import Iterator, Sequence
 from dataclasses import dataclass
 
-from registry_tools import voice
 from registry_tools.errors import FileFault, WordsFault
 from registry_tools.progress import progress
-from registry_tools.store.events import Event
-from registry_tools.store.file import Store
+from registry_tools.store.texts import Pair
 from registry_tools.texts import changes
 from registry_tools.texts.books import Sums, sums_of, sums_told
 from registry_tools.texts.changes import HandChange
@@ -17,24 +15,8 @@ from registry_tools.texts.day_text import DayText, read_day
 from registry_tools.texts.filed import filed_day, filed_report
 from registry_tools.texts.follows import line_behind, must_follow
 from registry_tools.texts.report import Report, read_report
-from registry_tools.texts.rows import KeptText, rows_of
+from registry_tools.texts.rows import rows_of
 from registry_tools.texts.runs import unlike
-
-# What is kept of a settled day, by the columns of its event, as `./day unpack` names it.
-FILES = {"text": "day.csv", "report": "report.csv", "waiting": "waiting.csv", "waits": "waits.csv"}
-
-
-@dataclass(frozen=True)
-class Pair:
-    """A day text and its report, by their paths, or by the names under which they are kept."""
-
-    day: str
-    report: str
-
-    @property
-    def is_filed(self) -> bool:
-        """Whether it is kept: then it was looked at when it was filed, and has the sums that it had then."""
-        return isinstance(self.day, KeptText)
 
 
 @dataclass
@@ -112,16 +94,3 @@ def must_be_of_one_registry(before: Report, day: DayText) -> None:
     if gone is not None:
         where = f"account {gone} of {before.path}:{before.book[gone].line}"
         raise FileFault(day.path, line_behind(day, gone), "account", f"no account {gone}", where)
-
-
-# Days that are kept.
-
-def kept(store: Store, event: Event, column: str) -> KeptText:
-    """A text that an event has in a column, by the name under which faults tell it."""
-    own = getattr(event, column)
-    return KeptText(voice.path(f"{store.path}/{event.date}/{FILES[column]}"), lambda: store.texts.get(own))
-
-
-def pair_of(store: Store, event: Event) -> Pair:
-    """The pair of a day that an event filed."""
-    return Pair(kept(store, event, "text"), kept(store, event, "report"))

@@ -1,4 +1,5 @@
 """The texts of a folder of days, each by the SHA-256 of its bytes: what people gave, and what days became."""
+import hashlib
 import sqlite3
 import zlib
 from collections.abc import Collection, Iterator
@@ -7,14 +8,29 @@ from pathlib import Path
 
 from registry_tools import voice
 from registry_tools.errors import FileFault, of_file
-from registry_tools.texts.rows import MOST_TEXT, sum_of as sum_of
+from registry_tools.texts.rows import MOST_TEXT, KeptText, sum_of as sum_of
 
 # How hard zlib tries: a higher level takes three times as long for a tenth less.
 LEVEL = 6
-# Packed bytes are unpacked so many at a time, where only the first lines are asked for.
-PIECE = 1 << 16
+# So many packed bytes are unpacked at a time; and so many unpacked ones, where only the first lines are asked for.
+PIECE, PIECE_OF_LINES = 1 << 15, 1 << 16
 # SQLite keeps no longer value.
 MOST_PACKED = 1_000_000_000
+# What is kept of a settled day, by the columns of its event, as `./day unpack` names it.
+FILES = {"text": "day.csv", "report": "report.csv", "waiting": "waiting.csv", "waits": "waits.csv"}
+
+
+@dataclass(frozen=True)
+class Pair:
+    """A day text and its report, by their paths, or by the names under which they are kept."""
+
+    day: str
+    report: str
+
+    @property
+    def is_filed(self) -> bool:
+        """Whether it is kept: then it was looked at when it was filed, and has the sums that it had then."""
+        return isinstance(self.day, KeptText)
 
 
 def put_back() -> str:
@@ -30,6 +46,10 @@ class Texts:
     path: Path
     below: "Texts | None" = None
 
+    def of_file(self) -> "Texts":
+        """Those of the file, of which these may be what is tried."""
+        return self.below.of_file() if self.below else self
+
     def put(self, content: bytes) -> str:
         """Keeps a text, and answers its sum. Raises FileFault if it is too long to be kept."""
         own = sum_of(content)
@@ -42,27 +62,45 @@ class Texts:
 
     def get(self, own: str) -> bytes:
         """The text with this sum. Raises FileFault if it is not there, or another one."""
+        return b"".join(self.pieces(own))
+
+    def pieces(self, own: str) -> Iterator[bytes]:
+        """The same piece by piece: what is wrong may be raised behind the last one."""
         packed, size = self.packed(own)
+        unpacker, there, left = zlib.decompressobj(), hashlib.sha256(), size
         try:
-            unpacker = zlib.decompressobj()
-            # (some bytes may unpack to a thousand times as many)
-            content = unpacker.decompress(packed, size + 1)
+            for place in range(0, len(packed), PIECE):
+                # (some bytes may unpack to a thousand times as many)
+                piece = unpacker.decompress(packed[place : place + PIECE])
+                there.update(piece)
+                left -= len(piece)
+                if left < 0:
+                    break
+                yield piece
         except zlib.error as error:
             raise self.fault(own, f"bytes that cannot be unpacked: {error}") from None
-        if len(content) != size:
-            raise self.fault(own, f"{'more' if len(content) > size else 'fewer'} bytes than its size, {size}")
-        if (there := sum_of(content)) != own:
-            raise self.fault(own, there)
+        if left:
+            raise self.fault(own, f"{'more' if left < 0 else 'fewer'} bytes than its size, {size}")
+        if there.hexdigest() != own:
+            raise self.fault(own, there.hexdigest())
         if not unpacker.eof or unpacker.unused_data:
             raise self.fault(own, "packed bytes that are cut, or go on behind the text")
-        return content
+
+    def fault_of(self, own: str) -> FileFault | None:
+        """What is wrong with a text, if something is. (Its pieces are let go: that takes a third of the time.)"""
+        try:
+            for _ in self.pieces(own):
+                pass
+        except FileFault as fault:
+            return fault
+        return None
 
     def lines(self, own: str) -> Iterator[str]:
         """The lines of a text: only what is asked for is unpacked. Nobody has compared their sum."""
         unpacker, (left, _), rest = zlib.decompressobj(), self.packed(own), b""
         try:
             while left and not unpacker.eof:
-                rest += unpacker.decompress(left, PIECE)
+                rest += unpacker.decompress(left, PIECE_OF_LINES)
                 left = unpacker.unconsumed_tail
                 *lines, rest = rest.split(b"\n")
                 yield from (line.decode("utf-8", "surrogateescape") for line in lines)
@@ -90,8 +128,5 @@ class Texts:
     def faults(self, without: Collection[str] = ()) -> Iterator[FileFault]:
         """What is wrong with all texts, but those that somebody looks at anyway."""
         for (own,) in self.db.execute("SELECT sum FROM texts ORDER BY sum").fetchall():
-            if own not in without:
-                try:
-                    self.get(own)
-                except FileFault as fault:
-                    yield fault
+            if own not in without and (fault := self.fault_of(own)):
+                yield fault

@@ -164,8 +164,3 @@ def draw(name: str, help_text: str, drawing: Callable[..., list[str]], most: int
         print(f"{name}: {wrong}", file=sys.stderr)
         return 1
     return streams.write(name, "\n".join([*lines, ""]), 1)
-
-
-def as_looked_up(word: str) -> str:
-    """A name, a heading or another word as it is looked up: without capitals, and each blank in it a single one."""
-    return " ".join(word.split()).casefold()

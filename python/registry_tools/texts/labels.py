@@ -17,7 +17,6 @@ from typing import NamedTuple
 
 from registry_tools import voice
 from registry_tools.errors import WordsFault, escaped, shown
-from registry_tools.texts.in_words import as_looked_up
 from registry_tools.texts.rows import Rows, rows_of
 
 USER, HOLDER, ACCOUNT = KINDS = ("user", "holder", "account")
@@ -167,3 +166,8 @@ def rows_in(source: Rows) -> Iterator[Label]:
             raise source.fault(index, "NUMBER", shown(label.number), expected)
         there[label.kind, label.number] = label
         yield label
+
+
+def as_looked_up(word: str) -> str:
+    """A name, a heading or another word as it is looked up: without capitals, and each blank in it a single one."""
+    return " ".join(word.split()).casefold()

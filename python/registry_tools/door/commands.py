@@ -10,17 +10,21 @@ from collections import defaultdict
 from pathlib import Path
 
 from registry_tools import isolated
-from registry_tools.desk import log
-from registry_tools.desk.door import Door, peer_at
-from registry_tools.desk.jobs import MOST_SECONDS, Started
+from registry_tools.door import log
+from registry_tools.door.door import Door, peer_at
 from registry_tools.errors import FileFault
+from registry_tools.office import people
 
 # So many commands of one login may be at work, and so many connections of browsers may be open: of one login, and of a
 # proxy, which comes for many.
 MOST_AT_ONCE, MOST_OPEN, MOST_OF_PROXY = 8, 8, 48
+# So long the desk waits for the commands at its end, before it ends them otherwise.
+MOST_SECONDS = 60.0
 # The descriptor of a connection that is closed.
 CLOSED = -1
 TOO_MANY = f"{MOST_AT_ONCE} commands of this login are at work: wait until one ends"
+OF_HOLDER = "who is tied to a holder works in a browser, and gives no commands"
+Started = subprocess.Popen[bytes]
 BY_PROXY = "a proxy gives no commands: whoever it speaks for gives them"
 
 
@@ -53,7 +57,7 @@ class Coming:
         if why:
             return why
         login = peer_at(own).login
-        why = BY_PROXY if self.is_proxy(login) else ""
+        why = BY_PROXY if self.is_proxy(login) else OF_HOLDER if self.is_tied(login) else ""
         if not why and len(self.at_work(login)) >= MOST_AT_ONCE:
             why = TOO_MANY
         if why:
@@ -65,6 +69,12 @@ class Coming:
         with contextlib.suppress(FileFault, OSError):
             return self.door.people().may_speak(login)
         return False
+
+    def is_tied(self, login: str) -> bool:
+        """Whether a login is tied to a holder, or nobody knows it now."""
+        with contextlib.suppress(FileFault, OSError, KeyError):
+            return self.door.people().named[login].tied_to(people.HOLDER) is not None
+        return True
 
     def at_work(self, login: str) -> list[Started]:
         """The commands of a login that have not ended."""

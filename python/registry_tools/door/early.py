@@ -8,8 +8,8 @@ import itsdangerous
 from waitress import channel, parser, utilities
 from werkzeug.http import parse_cookie
 
-from registry_tools.desk import heads, log
-from registry_tools.desk.heads import Head, Refusal
+from registry_tools.door import heads, log
+from registry_tools.door.heads import Head, Refusal
 
 Asked = Callable[[Any], Refusal | None]
 

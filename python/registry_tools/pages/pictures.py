@@ -1,4 +1,4 @@
-"""The pictures of the desk: what all accounts held over the last days, and who is missing how much. Each is told in a
+"""Pictures of a desk: what all accounts held over the last days, and who is missing how much. Each is told in a
 sentence, too, and no colour tells anything alone."""
 import datetime
 import math

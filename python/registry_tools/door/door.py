@@ -20,11 +20,12 @@ from dataclasses import dataclass
 from pathlib import Path
 from typing import Any
 
+from registry_tools import frames
 from registry_tools.cli.calling import COMMANDS
 from registry_tools.cli.link import LINKS
-from registry_tools.desk import heads, log
-from registry_tools.desk.heads import Head, Refusal
-from registry_tools.desk.kept import Kept
+from registry_tools.door import heads, log
+from registry_tools.door.heads import Head, Refusal
+from registry_tools.door.kept import Kept
 from registry_tools.errors import FileFault, WordsFault
 from registry_tools.layout import SETTINGS
 from registry_tools.office import people, settings
@@ -75,7 +76,7 @@ def peer_of(environ: Mapping[str, Any]) -> Peer:
 
 def peer_at(own: socket.socket) -> Peer:
     """Who is at the other end of a connection."""
-    return Peer(people.login_of(people.user_at(own)), str(own.getsockname()).endswith(LINKS))
+    return Peer(people.login_of(frames.user_at(own)), str(own.getsockname()).endswith(LINKS))
 
 
 class Links:

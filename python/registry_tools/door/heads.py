@@ -18,7 +18,7 @@ FEWEST_LETTERS, LONGEST_NAME = 22, 80
 # A form without files is much smaller than a file.
 MOST_FORM = 1 << 20
 # The forms that send files.
-OF_FILES = {"/hand-in/look", "/names/look"}
+OF_FILES = {"/hand-in/look", "/names/look", "/correct/look"}
 # Where a browser that says so sends a form from: a page of the desk, or nowhere, as by a link.
 OWN_SITES = {"same-origin", "none"}
 NO_LINK = "Open the link that the desk printed at its start. If you were in already, go on to this page:"

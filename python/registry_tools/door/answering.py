@@ -21,7 +21,7 @@ from typing import Any, BinaryIO, NamedTuple, TextIO, cast
 
 from registry_tools import elsewhere, frames, opening, steps, streams, tables
 from registry_tools.cli import main, placing
-from registry_tools.desk import log
+from registry_tools.door import log
 from registry_tools.errors import WORDS, WordsFault
 from registry_tools.frames import Broken
 from registry_tools.progress import progress

@@ -13,9 +13,9 @@ from gunicorn.workers.gthread import ThreadWorker
 
 from registry_tools import frames
 from registry_tools.cli.calling import COMMANDS
-from registry_tools.desk import log
-from registry_tools.desk.commands import Coming
-from registry_tools.desk.door import ENDINGS
+from registry_tools.door import log
+from registry_tools.door.commands import Coming
+from registry_tools.door.door import ENDINGS
 
 # A connection on which nothing comes for so many seconds is closed.
 SILENT = 60
@@ -24,7 +24,7 @@ MOST_REFUSED = 64
 # What is told, in plain text, to who gets nothing else.
 ANSWER = "HTTP/1.1 403 Forbidden\r\nConnection: close\r\nContent-Type: text/plain\r\nContent-Length: {}\r\n\r\n{}"
 # By this name gunicorn loads what answers; and what it reads of the environment.
-WORKER = "registry_tools.desk.worker.Worker"
+WORKER = "registry_tools.door.worker.Worker"
 OF_OTHERS = ("SCRIPT_NAME", "GUNICORN_PID", "GUNICORN_FD", "LISTEN_PID", "LISTEN_FDS")
 # Under this name the application has what says whether somebody may come in, and else why not, and begins commands.
 BEGINS = "BEGINS"

@@ -1,0 +1,262 @@
+"""What whoever has all rights does at the desk beside a day's work: looks at office.ini and at what to write into it,
+corrects a settled day, takes copies along, and hands in a year's working days and tables of somebody else. For
+cases/run-desk."""
+from __future__ import annotations
+
+import datetime
+import sqlite3
+from collections.abc import Iterator
+from pathlib import Path
+
+import desks
+from desk_of_holders import has, monday, office_in, person
+from harness import Said, differs
+from offices import events_of, handed_now, must_do, must_do_either, text_of
+
+from registry_tools.calendars import years
+from registry_tools.errors import WordsFault
+
+MONDAY, TUESDAY = "2025-09-22", "2025-09-23"
+ROW = "do,2025-09-23,5101,5102,surrender,100210,general,7"
+HOLIDAYS = b"""BEGIN:VCALENDAR\r
+VERSION:2.0\r
+BEGIN:VEVENT\r
+SUMMARY:New\r
+  Year\r
+DTSTART;VALUE=DATE:20270101\r
+DTEND;VALUE=DATE:20270102\r
+END:VEVENT\r
+BEGIN:VEVENT\r
+SUMMARY:Closed\r
+DTSTART;VALUE=DATE:20271227\r
+DTEND;VALUE=DATE:20280101\r
+END:VEVENT\r
+END:VCALENDAR\r
+"""
+TABLE = "Tag;Wer;Wer noch;Was;Konto;Art;Betrag\n23.09.2025;5101;5102;Abgabe;100210;general;1.234\n".encode()
+MAPPING = """[columns]
+Tag = proposed
+Wer = proposer
+Wer noch = approver
+Was = act
+Konto = from
+Art = kind
+Betrag = amount
+[act]
+Abgabe = surrender
+[form]
+dates = 31.12.2026
+amounts = 1.234.567
+""".encode()
+Told = tuple[str, object]
+
+
+def settings_page_trials(work: Path) -> Iterator[Told]:
+    """All trials of this file."""
+    yield from year_trials()
+    office = office_in(work, monday(), "change")
+    desk = desks.Desk(office, work / "private", header="X-User")
+    desk.served.jobs.begin = desks.at_once
+    anna, bert, gerd = (person(desk, login) for login in ("anna", "bert", "gerd"))
+    yield from office_trials(office, anna, gerd, person(desk, "cora"))
+    yield from copy_trials(work, office, anna, gerd)
+    yield from calendar_trials(office, anna)
+    yield from mapping_trials(office, anna)
+    yield from correct_trials(office, anna, bert, gerd)
+
+
+# office.ini.
+
+
+def office_trials(office: Path, anna: desks.Person, gerd: desks.Person, cora: desks.Person) -> Iterator[Told]:
+    """What office.ini says, and what to write: the page writes nothing, and tells what would be no line of it."""
+    begun = desks.bytes_of(office)
+    page = anna.get("/office")
+    yield "who may do what", has(page, "Anna Berg", "holder 5501, user 5101", "waits for a second login", "rules.py")
+    is_silent = str(office.parent) not in page.text and "/tools/" not in page.text
+    yield "no path of the disk", None if is_silent else page.text
+    for words, told in (
+        ("surrender=09-30&emissions=03-31&lead=40", "[due]\nsurrender = 09-30\nemissions = 03-31\nlead = 40"),
+        ("login=eva&name=Eva+Nord&rights=hand+in,+close", "[people]\neva = Eva Nord: hand in, close"),
+        ("login=eva&name=Eva&rights=holder+5501,+user+5101", "[people]\neva = Eva: holder 5501, user 5101"),
+        ("commands=change&commands=close", "[four eyes]\ncommands = change, close"),
+    ):  # fmt: skip
+        yield f"what to write: {words}", has(anna.get(f"/office?{words}"), told)
+    for words, told in (
+        ("surrender=30.9.", "surrender: found"), ("lead=x", "lead: found 'x'"),
+        ("login=eva&name=Eva&rights=sell", "eva: found"),
+        ("login=eva&name=Eva&rights=holder+5501,+all", "eva: found"), ("commands=sell", "[four eyes]: found 'sell'"),
+        ("login=x%0Ay&name=Eva&rights=all", "each field has one line"),
+        ("login=eva&name=a%0A[four+eyes]&rights=all", "each field has one line"),
+        ("surrender=09-30%0Aprogram+=+/tmp/x", "each field has one line"),
+    ):  # fmt: skip
+        answer = anna.get(f"/office?{words}")
+        yield f"what is no line: {words}", has(answer, told) or ("<pre>" in answer.text and answer.text)
+    for who, name in ((gerd, "gerd"), (cora, "cora")):
+        for path in ("/office", "/office?surrender=09-30", "/office/anchor.csv"):
+            yield f"{path} for {name}", wrong(who.get(path), 403)
+        for path in ("/office/db", "/office/backup"):
+            fields = {"token": token(who), "once": "0" * 16}
+            yield f"{path} for {name}", wrong(who.post(path, fields), 403)
+    yield "nothing was written", None if desks.bytes_of(office) == begun else "it was"
+    yield "no form writes it", [form.action for form in page.page.forms if form.method == "post"] != [
+        "/office/backup", "/office/db"]  # fmt: skip
+
+
+def token(who: desks.Person) -> str:
+    with who.client.session_transaction(base_url=f"http://{desks.HOST}") as session:
+        return str(session["token"])
+
+
+def wrong(answer: desks.Answer, status: int) -> object:
+    return None if answer.status == status else f"{answer.status}: {answer.content[:300]!r}"
+
+
+# Copies.
+
+
+def copy_trials(work: Path, office: Path, anna: desks.Person, gerd: desks.Person) -> Iterator[Told]:
+    """Copies and a database of all days, for who has all rights, one at a time; and the head of the folder."""
+    for command, name, table in (("backup", "registry.sqlite", "events"), ("db", "days.sqlite", "days")):
+        page = anna.yes(anna.get("/office"), f"/office/{command}")
+        yield f"{command} is made", has(page, "Done.", "Download it")
+        number = next(own for own in anna.desk.served.jobs.jobs.values() if own.command == command).number
+        path = f"/office/{number}/{name}"
+        answer = anna.get(path)
+        (work / name).write_bytes(answer.content)
+        with sqlite3.connect(work / name) as db:
+            count = db.execute(f"SELECT count(*) FROM {table}").fetchone()[0]
+        yield f"{command} is a database", None if count else count
+        yield f"{command} for who only looks", wrong(gerd.get(path), 403)
+        for other in (f"/office/{number}/x", f"/office/x/{name}", f"/office/{number}/..%2Fmade"):
+            yield f"no copy {other}", wrong(anna.get(other), 404)
+    yield "a copy is as the folder", differs((work / "registry.sqlite").read_bytes()[:16], b"SQLite format 3\0")
+    first = anna.get("/office/x/registry.sqlite")
+    yield "one that is not there", wrong(first, 404)
+    (job,) = anna.desk.served.jobs.of("backup")
+    yield "the one before is gone", wrong(anna.get(f"/office/{job.number}/registry.sqlite"), 404)
+    line = anna.get("/office/anchor.csv").text
+    kept = work / "anchors.csv"
+    kept.write_text(line)
+    said = Said("audit", "--anchors", kept, "--office", office)
+    yield "the head counts", None if said.status == 0 and line.startswith("anchor,") else (line, said)
+
+
+# The working days of a year.
+
+
+def year_trials() -> Iterator[Told]:
+    """All weekdays but some."""
+    days = years.weekdays_but(2027, {datetime.date(2027, 1, 1)})
+    yield "weekdays of 2027", differs([len(days), str(days[0]), str(days[-1])], [260, "2027-01-04", "2027-12-31"])
+    wanted = ["2027-01-01", *(f"2027-12-{day}" for day in range(27, 32))]
+    yield "days of a calendar", differs([*map(str, years.days_of_ics(HOLIDAYS))], wanted)
+    begin, end = b"BEGIN:VCALENDAR\nBEGIN:VEVENT\n", b"\nEND:VEVENT\nEND:VCALENDAR\n"
+    for what, lines in (
+        ("one day without an end", b"DTSTART:20270101"),
+        ("by the hour", b"DTSTART:20270101T080000Z\nDTEND:20270101T090000Z"),
+    ):  # fmt: skip
+        yield f"an entry: {what}", differs([*map(str, years.days_of_ics(begin + lines + end))], ["2027-01-01"])
+    for what, content in (
+        ("no calendar", b"Date;Name\n"), ("no day", begin + b"SUMMARY:x" + end),
+        ("13 months", begin + b"DTSTART:20271301" + end),
+        ("again each year", begin + b"DTSTART:20270101\nRRULE:FREQ=YEARLY" + end),
+        ("a hundred years", begin + b"DTSTART:20270101\nDTEND:21270101" + end),
+        ("an end before its begin", begin + b"DTSTART;VALUE=DATE:20270105\nDTEND;VALUE=DATE:20270101" + end),
+        ("too many", b"BEGIN:VCALENDAR\n" + b"BEGIN:VEVENT\nDTSTART:20270101\nEND:VEVENT\n" * 10_001),
+    ):  # fmt: skip
+        try:
+            yield f"a calendar: {what}", [*years.days_of_ics(content)] or "it was taken"
+        except WordsFault:
+            yield f"a calendar: {what}", None
+
+
+def calendar_trials(office: Path, anna: desks.Person) -> Iterator[Told]:
+    """A year's working days, by what is typed and by a calendar: looked at, and handed in as any rows."""
+    looked = send_year(anna, "2027", "2027-05-06, 2027-05-17", HOLIDAYS)
+    yield "the look", has(looked, "working days of 2027.csv: working days 253", "Yes, hand it in")
+    told = anna.yes(looked, "/hand-in/take")
+    yield "it is handed in", has(told, "Done.", "working days 253")
+    (_, name, content), *_ = [own for own in handed_now(office) if own[0] == "work"]
+    rows = content.decode().split()
+    gone = ("2027-01-01", "2027-05-06", "2027-05-17", "2027-12-27", "2027-12-31", "2027-01-02")
+    yield "its rows", differs([name, len(rows), rows[0]], ["working days of 2027.csv", 253, "work,2027-01-04"])
+    yield "without these", [day for day in gone if f"work,{day}" in rows]
+    for year, but, calendar, has_words in (
+        ("27", "", b"", "Year: found '27'"), ("1999", "", b"", "Year: found 1999"), ("2027", "1.5.2027", b"", "is not"),
+        ("2027", "", b"x", "expected a calendar as .ics"), ("\u0662\u0660\u0662\u0667", "", b"", "Year: found"),
+    ):  # fmt: skip
+        yield f"wrong: {year} {but} {calendar!r}", has(send_year(anna, year, but, calendar), has_words)
+
+
+def send_year(anna: desks.Person, year: str, but: str, calendar: bytes) -> desks.Answer:
+    """The look at the working days of a year."""
+    form = next(own for own in anna.get("/hand-in").page.forms if "year" in own.fields)
+    files = {"calendar": desks.uploads({"a.ics": calendar})["files"][0]} if calendar else {}
+    return anna.look("/hand-in/look", {**form.fields, "year": year, "but": but, **files})
+
+
+# Tables of somebody else.
+
+
+def mapping_trials(office: Path, anna: desks.Person) -> Iterator[Told]:
+    """A table by other headings, with the mapping that tells what they mean: kept beside its rows."""
+    fields = {"token": token(anna), "once": "0" * 16, **desks.uploads({"bank.csv": TABLE})}
+    yield "without a mapping", has(anna.look("/hand-in/look", {**fields}), "It cannot be taken as it is")
+    for what, mapping in (("no mapping", b"x"), ("an unknown column", b"[columns]\nTag = day\n")):
+        own = {**fields, **desks.uploads({"bank.csv": TABLE}), "mapping": desks.uploads({"m.ini": mapping})["files"][0]}
+        answer = anna.look("/hand-in/look", own)
+        yield what, has(answer, "the mapping") or wrong(answer, 409)
+    own = {**fields, **desks.uploads({"bank.csv": TABLE}), "mapping": desks.uploads({"m.ini": MAPPING})["files"][0]}
+    looked = anna.look("/hand-in/look", own)
+    yield "with its mapping", has(looked, "surrender of 1,234 general from 100210", "Yes, hand it in")
+    yield "it is handed in", has(anna.yes(looked, "/hand-in/take"), "Done.", "bank.csv")
+    kinds = {kind: content for kind, _, content in handed_now(office)}
+    yield "its row", differs(kinds["do"], b"do,2025-09-23,5101,5102,surrender,100210,general,1234\n")
+    yield "table and mapping are kept", differs([kinds["table.csv"], kinds["mapping.ini"]], [TABLE, MAPPING])
+
+
+# Correcting.
+
+
+def correct_trials(office: Path, anna: desks.Person, bert: desks.Person, gerd: desks.Person) -> Iterator[Told]:
+    """A settled day without a record, and with a file: shown first, and done by a yes to what was shown."""
+    begun = text_of(office, MONDAY)
+    for fields, told in (
+        ({"why": "x"}, "nothing to correct"), ({"why": "x", "without": "a"}, "Records that are left out"),
+        ({"why": "x", "without": "99"}, "Nothing was done"), ({"why": "", "without": "61007"}, "has to be"),
+    ):  # fmt: skip
+        yield f"wrong: {fields}", has(correct(anna, {}, **fields), told)
+    yield "who may not", has(correct(gerd, without="61007", why="x"), "may look, and not close")
+    looked = correct(anna, without="61007", why="entered twice")
+    yield "what it becomes", has(looked, "Nothing is corrected yet", "2025-09-22:", "Yes, correct it so")
+    yield "nothing is done by looking", None if text_of(office, MONDAY) == begun else "it was"
+    (form,) = [own for own in looked.page.forms if own.action == "/correct/make"]
+    for fields in ({"job": "0" * 16}, {"job": ""}, {"state": "0" * 64}):
+        answer = anna.follow(anna.post("/correct/make", {**form.fields, **fields, "once": "%016x" % len(str(fields))}))
+        is_so = text_of(office, MONDAY) == begun and "corrected:" not in answer.text
+        yield f"another yes: {fields}", None if is_so else answer
+    answer = bert.follow(bert.post("/correct/make", {**form.fields, "token": token(bert), "once": "2" * 16}))
+    who = events_of(office, "who", what="filed")[-1]
+    yield "a yes of somebody else is theirs", has(answer, "is corrected: closed once more") or differs(who, "bert")
+    now = text_of(office, MONDAY)
+    yield "the record is gone", None if b"surrender,100210,aviation,38200" not in now else now
+    answer = anna.follow(anna.post("/correct/make", {**form.fields, "once": "3" * 16}))
+    yield "somebody who comes late", None if "is corrected" not in answer.text else answer.text
+    must_do_either(["close", "--date", TUESDAY, "--second", "--yes", "--for", "bert", "--office", str(office)])
+    with_file = correct(anna, {"more.csv": f"{ROW}\n".encode()}, why="forgotten", day=TUESDAY)
+    yield "with a file", has(with_file, "Nothing is corrected yet")
+    yield "it is done", has(anna.yes(with_file, "/correct/make"), "is corrected: closed once more")
+    yield "and the file is in it, by its name", None if ROW in text_of(office, TUESDAY).decode() else "not"
+    names = events_of(office, "name", what="handed")
+    is_named = "more.csv" in names and not any("upload" in own for own in names)
+    yield "by the name that it came with", None if is_named else names
+    must_do(["release", TUESDAY, "--why", "x", "--yes", "--for", "anna", "--office", str(office)])
+    yield "a released day", has(anna.get("/correct"), "No day is settled, or all are released.")
+
+
+def correct(who: desks.Person, files: dict[str, bytes] | None = None, **said: str) -> desks.Answer:
+    """What a correction would make, or why it is none."""
+    form = who.get("/correct").page.form("/correct/look")
+    fields = {**form.fields, "second": "1", **said, **desks.uploads(files or {})}
+    return who.follow(who.post("/correct/look", fields))
