@@ -13,8 +13,12 @@ pub returns : goal.returns
 returns g c =
     let day = day_of_parts c.args.day in
     let closed = c.in-Ok.closed in
+    let batch = day.batch in
     c.in-Ok-write_report_pieces.ensures
-    ∙ ap (λ (rs : List Reply). text_of (report_rows closed.parts (rows_replied day.batch rs))) c.as_slice-replies.ensures.value
-    ∙ ap (λ (b : BookValue). text_of (report_rows b (rows_replied day.batch closed.replies.items))) c.in-Ok.ensures.closed.2
-    ∙ ap (λ (rs : List Reply). text_of (report_rows (book_after day) (rows_replied day.batch rs))) c.in-Ok.ensures.replies
+    ∙ ap (λ (rs : List Reply). text_of (report_rows closed.parts (rows_replied batch rs)))
+    c.as_slice-replies.ensures.value
+    ∙ ap (λ (b : BookValue). text_of (report_rows b (rows_replied batch closed.replies.items)))
+    c.in-Ok.ensures.closed.2
+    ∙ ap (λ (rs : List Reply). text_of (report_rows (book_after day) (rows_replied batch rs)))
+    c.in-Ok.ensures.replies
     ∙ ap (λ (rows : List LogRow). text_of (report_rows (book_after day) rows)) (c.log_is_made_again.ensures day)
