@@ -1,5 +1,5 @@
-//! A whole program over the crates with workers, for callers to copy, which does what the program `registry` does: reads
-//! a day text from standard input, settles the day on its own accounts by four workers, who own regions of them, and
+//! A whole program over the crates with workers, for callers to copy. It does what the program `registry` does: reads a
+//! day text from standard input, settles the day on its own accounts by four workers, who own regions of them, and
 //! writes the report to standard output. How many instructions each worker carried out goes to standard error: this
 //! differs from run to run, and the report does not. The exit status is 1 if anything failed.
 #![tactic(auto)]
