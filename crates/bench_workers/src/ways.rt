@@ -53,7 +53,9 @@ fn read_by<R: Threads + Sync>(
     let mut piece = Vec::new(alloc);
     piece.extend_from_slice(text)?;
     let mut pieces = Vec::new(alloc);
-    pieces.push(piece)?;
+    if pieces.push(piece).is_err() {
+        return Err(Stop::Short);
+    }
     match read_day_of_pieces(rt, alloc, &pieces, workers as usize, least) {
         Ok(day) => Ok(day),
         Err(_) => Err(Stop::Input),

@@ -116,7 +116,9 @@ pub(crate) fn try_read_pieces<R: Threads + Sync, W: Write>(
     writer: &mut W,
 ) -> Result<(), Stop> {
     let wanted = how_read(read_day(alloc, text));
-    let pieces = one_piece(alloc, text)?;
+    let Ok(pieces) = one_piece(alloc, text) else {
+        return Err(Stop::Short);
+    };
     let call = || how_joined(
         alloc,
         read_day_of_pieces(rt, alloc, &pieces, parts as usize, 1),
@@ -193,7 +195,9 @@ pub(crate) fn try_pieces<R: Threads + Sync, W: Write>(
     threads: u32,
     writer: &mut W,
 ) -> Result<(), Stop> {
-    let pieces = one_piece(alloc, text)?;
+    let Ok(pieces) = one_piece(alloc, text) else {
+        return Err(Stop::Short);
+    };
     let Ok(day) = read_day_of_pieces(rt, alloc, &pieces, readers as usize, 1) else {
         return Err(Stop::Input);
     };
