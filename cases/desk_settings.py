@@ -61,6 +61,7 @@ def settings_page_trials(work: Path) -> Iterator[Told]:
     yield from office_trials(office, anna, gerd, person(desk, "cora"))
     yield from copy_trials(work, office, anna, gerd)
     yield from calendar_trials(office, anna)
+    yield from year_of_instruction_trials(anna)
     yield from mapping_trials(office, anna)
     yield from correct_trials(office, anna, bert, gerd)
 
@@ -189,11 +190,20 @@ def calendar_trials(office: Path, anna: desks.Person) -> Iterator[Told]:
         yield f"wrong: {year} {but} {calendar!r}", has(send_year(anna, year, but, calendar), has_words)
 
 
+def year_of_instruction_trials(anna: desks.Person) -> Iterator[Told]:
+    """The year of an instruction is none whose working days are handed in."""
+    said = {"act": "emissions", "account": "100210", "year": "2025", "tonnes": "5", "proposed": "2025-09-23",
+            "proposer": "901", "approver": "902"}  # fmt: skip
+    looked = anna.send("/hand-in?act=emissions", "/hand-in/look", {}, **said)
+    words = "emissions of 100210 in 2025: 5 tonnes", "typed at the desk.csv: instructions 1"
+    yield "emissions of a year", has(looked, *words)
+
+
 def send_year(anna: desks.Person, year: str, but: str, calendar: bytes) -> desks.Answer:
     """The look at the working days of a year."""
-    form = next(own for own in anna.get("/hand-in").page.forms if "year" in own.fields)
+    form = next(own for own in anna.get("/hand-in").page.forms if "weekdays_of" in own.fields)
     files = {"calendar": desks.uploads({"a.ics": calendar})["files"][0]} if calendar else {}
-    return anna.look("/hand-in/look", {**form.fields, "year": year, "but": but, **files})
+    return anna.look("/hand-in/look", {**form.fields, "weekdays_of": year, "but": but, **files})
 
 
 # Tables of somebody else.

@@ -57,13 +57,13 @@ def page_of_form() -> str:
 def uploaded(served: Served, page: str, said: dict[str, list[str]]) -> str:
     """The name of a new upload with the files of the form, or with the instruction that it says; nothing, if a change
     or a name needs none. Raises WordsFault if an instruction needs one."""
-    chosen, year = [own for own in flask.request.files.getlist("files") if own.filename], "".join(said.get("year", []))
+    chosen, year = [own for own in flask.request.files.getlist("files") if own.filename], form("weekdays_of")
     is_typed = page == "/hand-in" and any(said.get("act", ()))
     typed = forms.numbers_in(Asked(page, said, "").first(), served.reading.names()) if is_typed else {}
     rows = forms.rows_of_instruction(typed) if is_typed else b""
     if page == "/hand-in" and year:
         calendar = flask.request.files.get("calendar")
-        rows = forms.rows_of_year(year, "".join(said.get("but", [])), calendar.read() if calendar else b"")
+        rows = forms.rows_of_year(year, form("but"), calendar.read() if calendar else b"")
     if not chosen and not rows:
         if page == "/hand-in":
             raise WordsFault("no file was chosen")

@@ -170,8 +170,9 @@ def look_at(
 ) -> Any:  # fmt: skip
     """The page of the form, with what it says."""
     act, number = said.get("act", ""), said.get("account", "")
+    code = 400 if wrong and flask.request.method == "POST" else 200
     return show_page(
-        "own_hand_in", "Ask for something", 400 if wrong else 200, act=act, acts=asking.ACTS, account=number,
+        "own_hand_in", "Ask for something", code, act=act, acts=asking.ACTS, account=number,
         accounts=[*own.book], fields=fields, wrong=wrong, had=had, said=said,
         row="" if wrong or not row else own.words_of(row.decode().splitlines()[0]),
         users=[*map(own.settled.names.user, asking.approvers(own, person, act, int(number)))] if fields else [],

@@ -24,6 +24,7 @@ from registry_tools.pairs.compliance import Standing, standings_alone
 from registry_tools.questions.accounts import excerpts
 from registry_tools.questions.days import Days
 from registry_tools.second import rules
+from registry_tools.texts.in_words import grouped
 from registry_tools.texts.own import OwnRow, users_of
 from registry_tools.texts.pending import Waiting
 
@@ -120,9 +121,14 @@ class Own:
         return OwnWords(Waiting(None, instruction), instruction.first, users_of(self.book[instruction.first]))
 
     def words_of(self, row: str) -> str:
-        """What a row asks for, for an account of the holder."""
-        own = self.in_words(rules.read_instruction(row.split(",")[1:]))
-        return f"account {own.number}, {own.words_with_amount}"
+        """What a row asks for, for an account of the holder, with who proposes and approves it, and what the account
+        holds."""
+        instruction = rules.read_instruction(row.split(",")[1:])
+        own, user = self.in_words(instruction), self.settled.names.user
+        by = f"proposed on {instruction.proposed} by {user(instruction.proposer)}"
+        approver = f"{user(instruction.approver)} is asked to approve" if instruction.approver else "nobody approves it"
+        held = " and ".join(f"{grouped(held)} {kind}" for kind, held in self.account(own.number).held.items())
+        return f"account {own.number}, {own.words_with_amount}, {by}; {approver}. The account holds {held}"
 
     def told(self, office: Office, there: HandedIn, part: Part, row: str, login: str) -> Handed:
         """What a holder is told of an instruction."""
