@@ -24,7 +24,7 @@ LIBRARY = TOP / "out/library/lib/libregistry.so.1"
 CALLS = TOP / "examples/python/src/registry/native.py"
 # How memory is taken, as `./run` says it: a full day takes new memory all the time, and gets it sooner in large pages.
 TUNABLES = ("GLIBC_TUNABLES", "glibc.malloc.hugetlb=1:glibc.malloc.mmap_threshold=131072")
-NO_LIBRARY = "there is no library that is as new as its sources: name a program, or run tools/library out/library"
+NO_LIBRARY = "there is no library that is as new as its sources", "name a program, or run tools/library out/library"
 
 
 # What programs have said on standard error so far.
@@ -40,9 +40,9 @@ def tell_once(said: bytes) -> None:
         print(words, file=sys.stderr)
 
 
-def nothing_beside() -> str:
-    """What an installation lacks that settles by no library."""
-    return f"there is no program and no library beside {streams.names['./day']}: name a program"
+def nothing_beside() -> tuple[str, str]:
+    """What an installation lacks that settles by no library, and the way out."""
+    return f"there is no program and no library beside {streams.names['./day']}", "name a program"
 
 
 class NotSettled(Exception):
@@ -169,7 +169,8 @@ def settler_of(program: str | Literal[True], option: str) -> Settler:
         return Program(program, option)
     library, beside = find_library(), installed.program()
     if library is None and beside is None:
-        raise WordsFault(f"{option}: {NO_LIBRARY if installed.is_checkout() else nothing_beside()}")
+        why, way = NO_LIBRARY if installed.is_checkout() else nothing_beside()
+        raise WordsFault(f"{option}: {why}", way)
     return library or Program(str(beside), option)
 
 

@@ -39,8 +39,9 @@ class WordsFault(Fault):
 
     code, remedy = "words", "give the words that the sentence names"
 
-    def __init__(self, why: str, way: str = "") -> None:
-        super().__init__(f"{why}: {way}" if way else why)
+    def __init__(self, why: str, way: str = "", joint: str = ": ") -> None:
+        # (between both stands the `joint`)
+        super().__init__(f"{why}{joint}{way}" if way else why)
         self.why, self.way = why, way
 
     def without_way(self) -> str:

@@ -64,7 +64,7 @@ def command_approved(said: argparse.Namespace) -> int:
     """Approves what somebody asked for."""
     command, *more = said.what
     if more or said.date is None:
-        raise WordsFault(f"name the day of what is approved: {voice.command('approve', command, '--date', 'DATE')}")
+        raise WordsFault("name the day of what is approved", voice.command("approve", command, "--date", "DATE"))
     date = dates.date_of(voice.option("date"), said.date)
     with folder.opened(said.office) as office:
         asked, by = approve.approve_command(office, words.by(said, office), command, date)

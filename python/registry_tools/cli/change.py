@@ -151,7 +151,7 @@ def edits_of(said: argparse.Namespace, names: Labels = Labels()) -> list[Edit]:
             edits.must_be_readable(edit)
     if not made:
         way = f"{voice.command('change', '--help')} tells what can be"
-        raise WordsFault(f"nothing to change: {voice.either(way, 'the form says what is there')}")
+        raise WordsFault("nothing to change", voice.either(way, "the form says what is there"))
     return made
 
 

@@ -34,7 +34,7 @@ def desk_for(name: str, words: argparse.Namespace, named: str | None) -> Desk | 
     own = getattr(words, "office", None) or getattr(words, "_office", None)
     if named is not None:
         if name in NOT_THERE:
-            raise WordsFault(f"--desk: {streams.in_help(NOT_THERE[name])}")
+            raise not_there(name, "--desk")
         if own is not None:
             raise WordsFault("--desk stands in place of --office")
         return Desk(named) if takes_folder(words) else None
@@ -44,8 +44,14 @@ def desk_for(name: str, words: argparse.Namespace, named: str | None) -> Desk | 
     known = None if own is not None or is_in_folder else os.environ.get(VARIABLE)
     found = Desk(known) if known else desk_of_folder(own)
     if found and name in NOT_THERE:
-        raise WordsFault(f"by the desk at {found.path}: {streams.in_help(NOT_THERE[name])}")
+        raise not_there(name, f"by the desk at {found.path}")
     return found
+
+
+def not_there(name: str, where: str) -> WordsFault:
+    """That no desk does this command, with the way out."""
+    why, _, way = streams.in_help(NOT_THERE[name]).partition("; ")
+    return WordsFault(f"{where}: {why}", way, "; ")
 
 
 def takes_folder(words: argparse.Namespace) -> bool:

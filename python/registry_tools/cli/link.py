@@ -55,7 +55,7 @@ def run(said: argparse.Namespace) -> int:
     """Runs the command, and answers the exit status."""
     path = said.socket or os.environ.get(VARIABLE)
     if not path:
-        raise WordsFault(f"name the socket of the desk: --socket PATH, or {VARIABLE}")
+        raise WordsFault("name the socket of the desk", f"--socket PATH, or {VARIABLE}")
     answer = ask(path, "/end" if said.end else "/link")
     if said.end:
         print(f"links that have ended: {answer[1]}")

@@ -122,7 +122,7 @@ def look_at_files(words: argparse.Namespace) -> None:
     if to is None:
         return
     if to == STANDARD_INPUT:
-        raise WordsFault("--to - names no file: without --to the answer goes to standard output")
+        raise WordsFault("--to - names no file", "without --to the answer goes to standard output")
     if any(is_same_file(path, to) for path in read):
         raise WordsFault(f"--to {to} is one of the files that the command reads")
     must_be_writable(to)

@@ -128,7 +128,7 @@ def must_be_proved(day: Event) -> None:
     doubt = release.doubt_of(day)
     if doubt:
         way = f"{voice.command('release', day.date, '--yes')} releases it"
-        raise WordsFault(f"{voice.option('release')}: {day.date} {doubt}; {way}")
+        raise WordsFault(f"{voice.option('release')}: {day.date} {doubt}", way, "; ")
 
 
 def must_still_be_there(office: Office, day: Event) -> None:
@@ -136,4 +136,4 @@ def must_still_be_there(office: Office, day: Event) -> None:
     with office.store.reading():
         there = office.store.events.day_of(day.date)
     if there is None or there.line != day.line:
-        raise WordsFault(f"{day.date} was undone meanwhile: look once more")
+        raise WordsFault(f"{day.date} was undone meanwhile", "look once more")

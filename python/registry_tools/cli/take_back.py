@@ -37,7 +37,7 @@ def run(said: argparse.Namespace) -> int:
     """Runs the command, and answers the exit status."""
     asked = TakeBack(words.one_line("why", said.why), tuple(said.places), said.file, said.handed_by)
     if not asked.places and asked.file is None and asked.handed_by is None:
-        raise WordsFault("name what is taken back: a PLACE, --file or --handed-by")
+        raise WordsFault("name what is taken back", "a PLACE, --file or --handed-by")
     with folder.opened(said.office) as office:
         items = take_back.take_back(office, words.by(said, office), asked)
     told = [f"taken back: place {item.place}: {' '.join(item.rows)}" for item in items]

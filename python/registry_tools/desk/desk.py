@@ -105,8 +105,8 @@ def at_socket(said: argparse.Namespace, path: Path) -> int:
 
     own, known = people.system_login(), door.Door(path).people()
     if not known.may_speak(own):
-        way = f"{own} = The desk: {people.PROXY}"
-        raise WordsFault(f"--socket: {own} speaks for who comes, and office.ini does not say so: below [people], {way}")
+        way = f"below [people], {own} = The desk: {people.PROXY}"
+        raise WordsFault(f"--socket: {own} speaks for who comes, and office.ini does not say so", way)
     door.must_be_free(said.socket)
     serve_at(path, said.socket, said.proxy_user or door.HEADER, said.look)
     return 0
@@ -183,6 +183,6 @@ def by_system(missing: list[str], needed: tuple[str, ...] = NEEDED, packages: st
     asked = [SYSTEM, "-I", "-c", f"import {', '.join(needed)}"]
     is_own = os.path.realpath(sys.executable) == os.path.realpath(SYSTEM)
     if is_own or not os.access(SYSTEM, os.X_OK) or subprocess.run(asked, capture_output=True, check=False).returncode:
-        raise WordsFault(f"it needs {' and '.join(missing)}: {packages}")
+        raise WordsFault(f"it needs {' and '.join(missing)}", packages)
     print(f"{sys.executable} has no {' and no '.join(missing)}: started by {SYSTEM}", file=sys.stderr, flush=True)
     os.execv(SYSTEM, [*isolated.command_by(SYSTEM), streams.names["./day"], *sys.argv[1:]])

@@ -256,14 +256,14 @@ class Jobs:
     def upload(self, name: str) -> list[Given]:
         """The files of an upload, in their order."""
         if name not in self.uploads:
-            raise WordsFault("the files are not here any more: choose them again")
+            raise WordsFault("the files are not here any more", "choose them again")
         return [*self.uploads[name]]
 
 
 def too_many(what: str, found: int, most: int) -> WordsFault:
     """More waits for a yes than may wait."""
     way = f"hand in or take what waits: it goes by itself after {UPLOAD_AGE // 60} minutes"
-    return WordsFault(f"{what} that wait for a yes at this desk: found {found:,}; expected at most {most:,}; {way}")
+    return WordsFault(f"{what} that wait for a yes at this desk: found {found:,}; expected at most {most:,}", way, "; ")
 
 
 @contextlib.contextmanager

@@ -58,7 +58,7 @@ def part_at(office: Office, handed_in: HandedIn, word: str) -> Part:
     part = handed_in.part_at(int(word)) if word.isascii() and word.isdigit() else None
     if part is None:
         expected = f"a place of {voice.command('status')}, or one of {', '.join(OF_DATES)} with {voice.option('date')}"
-        raise WordsFault(f"{word}: expected {expected}")
+        raise WordsFault(word, f"expected {expected}")
     if not approvals.needs_second(office, part):
         raise WordsFault(f"place {word} does not wait for another login")
     must_be_other(office, approvals.commands_for(office, part, office.login), part.who, part.login)
@@ -83,13 +83,14 @@ def must_be_other(office: Office, commands: Collection[str], who: str, login: st
     """Ends the command if this login asked for it, passed it on, or may not do it, or if nobody knows who asked."""
     again = "take it back, and hand it in once more"
     if not login:
-        raise WordsFault(f"nobody knows who handed it in, and so nobody is the second one: {again}")
+        raise WordsFault("nobody knows who handed it in, and so nobody is the second one", again)
     own = people.person_of(office.login)
     if people.person_of(login) == own:
-        raise WordsFault(f"{approvals.who_did(office, who, login)} asked for it: another login approves it")
+        raise WordsFault(f"{approvals.who_did(office, who, login)} asked for it", "another login approves it")
     if own in office.people.hands_of(login):
         passed = f"{own} passed it on when a day was filed or undone"
-        raise WordsFault(f"{passed}, and who did it is told by {own} alone: another login approves it, or {again}")
+        way = f"another login approves it, or {again}"
+        raise WordsFault(f"{passed}, and who did it is told by {own} alone", way)
     for command in commands:
         people.must_be_allowed(office.people, office.login, command)
 

@@ -124,7 +124,7 @@ def on_pair(day: DayText, report: Report, made: list[Edit]) -> tuple[bytes, list
     rows that go and come. Raises WordsFault if they change nothing."""
     if any(edit.number == 0 for edit in made):
         where = f"change a row of the rules in the text that {voice.command('next')} writes"
-        raise WordsFault(f"with --pairs only accounts are changed: {where}")
+        raise WordsFault("with --pairs only accounts are changed", where)
     blocks = edits.edited_blocks(made, report, {})
     text = text_of_rows([row for rows in blocks.values() for row in rows])
     after = next_day.book_with_changes(day, report, KeptText("changes.csv", lambda: text), Notes())

@@ -94,13 +94,14 @@ def settlement_date(office: Office, handed_in: HandedIn) -> datetime.date:
     return following
 
 
-def ways_on(office: Office, handed_in: HandedIn, date: datetime.date) -> str:
-    """What to say of a date that cannot be the next one: who closed it, which one comes next, and what takes the last
-    one back."""
+def not_later(office: Office, handed_in: HandedIn, date: datetime.date) -> WordsFault:
+    """That a date cannot be the next one: who closed it, which one comes next, and what takes the last one back."""
     last, event = last_day(office), office.events.day_of(date)
     closed = f": {event.who} closed {date} at {voice.time(event.at)}" if event else ""
-    back = "" if office.events.is_released() else f", and {voice.command('undo', last.date)} takes the last one back"
-    return f"{closed}; the next one is {settlement_date(office, handed_in)}{back}"
+    comes = f"{closed}; the next one is {settlement_date(office, handed_in)}"
+    back = "" if office.events.is_released() else f"{voice.command('undo', last.date)} takes the last one back"
+    why = f"{voice.option('date', date)} is not later than {last.date}, the last day{comes}"
+    return WordsFault(why, back, ", and ")
 
 
 def working_days(office: Office, last: Event, handed_in: HandedIn) -> list[datetime.date]:
@@ -137,7 +138,7 @@ def telling_the_way_out() -> Iterator[None]:
         yield
     except FileFault as fault:
         if fault.place is not None and fault.expected:
-            fault.expected += f"; {voice.command('take-back', fault.place)} takes it back"
+            fault.way = f"{voice.command('take-back', fault.place)} takes it back"
         raise
 
 
@@ -157,8 +158,8 @@ def first_day(first: DayText, handed_in: HandedIn, date: datetime.date) -> NextD
     for kind in (CHANGES, EDITS, WORK):
         item = next(handed_in.items(kind), None)
         if item:
-            why = f"are for later days; correct the first text by {voice.command('init')} in its place"
-            raise WordsFault(f"place {item.place}: {kind} {why}")
+            way = f"correct the first text by {voice.command('init')} in its place"
+            raise WordsFault(f"place {item.place}: {kind} are for later days", way, "; ")
     new = [*handed_in.items(DO)]
     next_day.check_count(first.head.next_record, len(first.instructions) + len(new))
     rows = [*first.source.rows[:-1], *(row for item in new for row in item.rows), "end"]
@@ -184,8 +185,7 @@ def later_day(office: Office, handed_in: HandedIn, date: datetime.date) -> NextD
     last = last_day(office)
     day, report = last_pair(office, has_book=False)
     if date <= last.date:
-        asked = voice.option("date", date)
-        raise WordsFault(f"{asked} is not later than {last.date}, the last day{ways_on(office, handed_in, date)}")
+        raise not_later(office, handed_in, date)
     contents, name = handed_in.contents(), voice.path(f"{office.store.path}/next")
     merged = Merged(name, handed_in)
     try:

@@ -87,7 +87,7 @@ def correct(office: Office, by: By, asked: Correct) -> Corrected | Shown | tuple
     day than the corrected one."""
     if not asked.without and not asked.files:
         ways = voice.either("--without RECORD or --with FILE", "a record that is left out, or a file,")
-        raise WordsFault(f"nothing to correct: {ways} says what is wrong")
+        raise WordsFault("nothing to correct", f"{ways} says what is wrong")
     with office.changing("correct", by) if asked.yes else office.trying("correct", by):
         must_be_open(office, asked.date, asked.without)
         added = [incoming.read(each) for each in asked.files]
@@ -192,8 +192,8 @@ class Correction:
         said = voice.option("without", record)
         raise WordsFault(f"{said}: {there}, and the days behind it have them up to {last.next - 1}")
 
-    def waited(self, record: int) -> str:
-        """That a record waited since an earlier day, and the words by which it is left out of that one."""
+    def waited(self, record: int) -> WordsFault:
+        """That a record waited since an earlier day, with the words by which it is left out of that one."""
         event, logged = self.logged(record)
         row = logged.instruction.row
         said = f"{voice.option('without', record)}: it waited since an earlier day, which it was handed in for: {row}"
@@ -201,8 +201,9 @@ class Correction:
             _, report = past.read(self.office.store.pair_of(earlier))
             waited = [own.record for own in report.log if own.name == NOT_DUE and own.instruction.row == row]
             if waited:
-                return f"{said}; {voice.command('correct', earlier.date, '--without', waited[0])} leaves it out"
-        return said
+                way = f"{voice.command('correct', earlier.date, '--without', waited[0])} leaves it out"
+                return WordsFault(said, way, "; ")
+        return WordsFault(said)
 
     # The days once more.
 
@@ -259,7 +260,7 @@ class Correction:
         begin, gone = event.next - len(items), set[int]()
         for record in self.asked.without:
             if event.first <= record < begin:
-                raise WordsFault(self.waited(record))
+                raise self.waited(record)
             if begin <= record < event.next:
                 gone.add(items[record - begin].place)
         return gone

@@ -34,7 +34,7 @@ def folder_of(word: str | None) -> Path:
         ways = f"--office FOLDER or {VARIABLE} names one, {voice.command('init')} makes one"
     if not (path / SETTINGS).is_file():
         why = f"{where} is no folder of days: it has no {SETTINGS}"
-        raise WordsFault(voice.either(f"{why}; {ways}", why))
+        raise WordsFault(why, voice.either(ways, ""), "; ")
     opening.guard(path)
     return path
 

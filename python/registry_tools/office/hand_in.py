@@ -211,8 +211,9 @@ def refuse_accounts(here: Here, own: Incoming) -> None:
         tag, _, rest = row.partition(",")
         number = rest.partition(",")[0]
         if tag == "account" and number in there:
-            item, expected = there[number], f"another account; {voice.command('take-back')} takes that one back"
-            found, named = f"account {number}, which was handed in at place {item.place}", here.named_as(item.part)
-            if named:
-                found, expected = f"account {number}, which stands in {named}", "another account"
-            raise FileFault(own.path, source.line(place), "NO", found, expected)
+            item = there[number]
+            named = here.named_as(item.part)
+            where = f"stands in {named}" if named else f"was handed in at place {item.place}"
+            fault = FileFault(own.path, source.line(place), "NO", f"account {number}, which {where}", "another account")
+            fault.way = "" if named else f"{voice.command('take-back')} takes that one back"
+            raise fault

@@ -42,57 +42,22 @@ class Part:
 
     event: Event
     origin: Event
-    sources: tuple[Event, ...] = ()
-
-    @property
-    def at(self) -> str:
-        """When it was handed in."""
-        return self.origin.at
-
-    @property
-    def who(self) -> str:
-        """Who handed it in, by the name that was given."""
-        return self.origin.who
-
-    @property
-    def login(self) -> str:
-        """The login that handed it in; nothing, if nobody knows it."""
-        return self.origin.login
-
-    @property
-    def kind(self) -> str:
-        """What its things are."""
-        return self.event.kind
-
-    @property
-    def name(self) -> str:
-        """What it was called; of differences, the reason."""
-        return self.event.name
-
-    @property
-    def start(self) -> int:
-        """The place of its first thing."""
-        return self.event.start
-
-    @property
-    def count(self) -> int:
-        """How many things it has."""
-        return self.event.count
-
-    @property
-    def end(self) -> int:
-        """The place behind its last thing."""
-        return self.start + self.count
-
-    @property
-    def sum(self) -> str:
-        """The sum of its rows."""
-        return self.event.text
-
-    @property
-    def earliest(self) -> datetime.date | None:
-        """The date of the undone day of which it was, if there is one: it comes into no earlier one."""
-        return None if self.event.date == NO_DATE else self.event.date
+    sources: tuple[Event, ...]
+    # When it was handed in, by whom, by the name that was given, and by which login; nothing, if nobody knows it.
+    at: str
+    who: str
+    login: str
+    # What its things are, and what it was called; of differences, the reason.
+    kind: str
+    name: str
+    # The place of its first thing, how many it has, and the place behind its last thing.
+    start: int
+    count: int
+    end: int
+    # The sum of its rows.
+    sum: str
+    # The date of the undone day of which it was, if there is one: it comes into no earlier one.
+    earliest: datetime.date | None
 
     def is_of_later(self, date: datetime.date) -> bool:
         """Whether it is meant for a day behind this one."""
@@ -286,7 +251,10 @@ def part_by(store: Store, event: Event) -> Part:
         if own.what != SOURCE or own.of != origin.id:
             break
         sources.append(own)
-    return Part(event, origin, tuple(sources))
+    return Part(
+        event, origin, tuple(sources), origin.at, origin.who, origin.login, event.kind, event.name, event.start,
+        event.count, event.start + event.count, event.text, None if event.date == NO_DATE else event.date,
+    )  # fmt: skip
 
 
 # Handing in.

@@ -129,7 +129,7 @@ class Office:
     def done_since(self, state: str) -> Iterator[str]:
         """What was done behind a state of the folder that somebody has seen, in words."""
         if not STATE.fullmatch(state):
-            raise WordsFault(f"{shown(state)} is no state of a folder, and nothing was done: look once more")
+            raise WordsFault(f"{shown(state)} is no state of a folder, and nothing was done", "look once more")
         lines = [event.line for event in self.events.all]
         if state not in lines:
             yield "it was a state of another folder, or of another history of this one"

@@ -50,7 +50,7 @@ def release_if_there(office: Office, by: By, filed: Event, why: str) -> Released
     with office.changing("release", by):
         there = office.events.day_of(filed.date)
         if there is None or there.line != filed.line:
-            raise WordsFault(f"{filed.date} was undone meanwhile: look once more")
+            raise WordsFault(f"{filed.date} was undone meanwhile", "look once more")
         return None if office.events.is_released(there) else made_known(office, there, why)
 
 

@@ -68,7 +68,7 @@ def last_year_over(head: rules.Day) -> int:
     over = years_over(head)
     if not over:
         there = f"no year of a period is over on {head.date}"
-        raise WordsFault(f"{there}: name a year by {voice.option('year')}")
+        raise WordsFault(there, f"name a year by {voice.option('year')}")
     return over[-1][-1]
 
 

@@ -131,7 +131,7 @@ def edited(edit: Edit, rows: list[str] | None) -> list[str]:
         kind, holder = edit.words
         return [NEW_ACCOUNT.format(number=edit.number, kind=kind, holder=holder)]
     if rows is None:
-        raise WordsFault(f"there is no account {edit.number}: {voice.option('open-account')} opens one")
+        raise WordsFault(f"there is no account {edit.number}", f"{voice.option('open-account')} opens one")
     return {PUT: put_field, ADD: add_row, DROP: drop_row}[edit.how](edit, rows)
 
 
@@ -184,7 +184,7 @@ def edited_heading(edits: Iterable[Edit], heading: list[str]) -> list[str]:
         rows += [] if named else ["current,1"]
     elif named and "format,1" in rows:
         adds = voice.either("--period FIRST-LAST", "One more period")
-        raise WordsFault(f"the one period is the current one: {adds} adds another")
+        raise WordsFault("the one period is the current one", f"{adds} adds another")
     return sorted(rows, key=place_of_rule)
 
 

@@ -117,8 +117,8 @@ def settler_in_words(named: str) -> str:
 def by_program(program: str, text: bytes, whose: str) -> bytes:
     """The report that a program writes of a day text."""
     if not program and not RUN.exists():
-        second = voice.option("second")
-        raise WordsFault(f"no program is named: put `program = PATH` into office.ini, or have {second} settle")
+        way = f"put `program = PATH` into office.ini, or have {voice.option('second')} settle"
+        raise WordsFault("no program is named", way)
     name = program or str(RUN)
     progress.tell(f"settling by {name}")
     try:

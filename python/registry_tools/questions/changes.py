@@ -7,7 +7,6 @@ from registry_tools.office import approvals, handed
 from registry_tools.office.handed import CHANGES, EDITS, HandedIn, Item
 from registry_tools.office.office import Office
 from registry_tools.showing import Cell
-from registry_tools.store import past
 from registry_tools.store.texts import Pair
 
 COLUMNS = tables.COLUMNS["changes"]
@@ -16,7 +15,9 @@ NEXT, OF_RULES = "next day", "the rules"
 
 def changes_of_pairs(pairs: Sequence[Pair]) -> Iterator[list[Cell]]:
     """The changes between the days of pairs of paths."""
-    for past_day in past.read_all(pairs):
+    from registry_tools.store.past import read_all
+
+    for past_day in read_all(pairs):
         for change in past_day.changes():
             yield [str(past_day.date), None, None, None, None, f"{change.account or OF_RULES}: {change.words}"]
 

@@ -7,14 +7,17 @@ import sqlite3
 from collections.abc import Iterator, Sequence
 from dataclasses import dataclass, field
 from pathlib import Path
+from typing import TYPE_CHECKING
 
 from registry_tools import voice
 from registry_tools.errors import WordsFault, of_file
-from registry_tools.store import daybook, past
 from registry_tools.store.file import Store, telling
-from registry_tools.store.past import PastDay, read_all
 from registry_tools.store.texts import Pair
 from registry_tools.texts.rows import bytes_of, rows_of, sum_of
+
+# (who asks tables alone reads no text, and what does would take a tenth of the time of such a question to load)
+if TYPE_CHECKING:
+    from registry_tools.store.past import PastDay
 
 
 @dataclass
@@ -25,7 +28,7 @@ class Days:
     pairs: dict[datetime.date, Pair]
     head: str = ""
     # The last one that was read, so that nobody reads it twice.
-    read: dict[datetime.date, PastDay] = field(default_factory=dict)
+    read: "dict[datetime.date, PastDay]" = field(default_factory=dict)
 
     @property
     def dates(self) -> list[datetime.date]:
@@ -64,10 +67,12 @@ class Days:
         """The last day up to a date."""
         return max((own for own in self.pairs if own <= date), default=None)
 
-    def day(self, date: datetime.date) -> PastDay:
+    def day(self, date: datetime.date) -> "PastDay":
         """A day with its report, and without the day before it."""
+        from registry_tools.store import past
+
         if date not in self.read:
-            self.read = {date: PastDay(*past.read(self.pairs[date]), None, [])}
+            self.read = {date: past.PastDay(*past.read(self.pairs[date]), None, [])}
         return self.read[date]
 
 
@@ -97,6 +102,9 @@ def telling_of_tables(path: Path) -> Iterator[None]:
 
 def of_pairs(pairs: Sequence[Pair]) -> Days:
     """The days of pairs of paths, of which all are read."""
+    from registry_tools.store import daybook
+    from registry_tools.store.past import read_all
+
     found = Days(daybook.in_memory(), {})
     for pair, past_day in zip(pairs, read_all(pairs)):
         daybook.add_day(found.database, past_day, sums_of_pair(pair))

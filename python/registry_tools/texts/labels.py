@@ -100,7 +100,7 @@ class Labels:
             raise WordsFault(f"{shown(word)} names no {what}", f"{voice.command('label')} lists the names")
         if len(found) > 1:
             several = "; ".join(map(str, found))
-            raise WordsFault(f"{shown(word)} may be {several}: say more of the name, or the number")
+            raise WordsFault(f"{shown(word)} may be {several}", "say more of the name, or the number")
         return found[0]
 
 
