@@ -137,7 +137,7 @@ struct registry_answer registry_version_string(char *room, size_t room_length);
 /* The word of a cause (enum registry_cause), as the program writes it: `order`. At most 7 bytes. */
 struct registry_answer registry_cause_word(uint32_t cause, char *room, size_t room_length);
 
-/* The name of the check with this code, 1 to 28, as a log has it behind `refused,CODE`: `NotEnough`. It has at most
+/* The name of the check with this code, as a log has it behind `refused,CODE`: `NotEnough`. It has at most
  * 23 bytes. */
 struct registry_answer registry_refusal_word(uint32_t code, char *room, size_t room_length);
 

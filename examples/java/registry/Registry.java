@@ -164,7 +164,7 @@ public final class Registry {
     }
 
     /**
-     * The name of the check with this code, 1 to 28, as a log has it. Another code has the empty text.
+     * The name of the check with this code, as a log has it. Another code has the empty text.
      *
      * @param code the code of a check
      * @return its name

@@ -200,7 +200,7 @@ pub fn version() -> String {
     native::version()
 }
 
-/// The name of the check with this code, 1 to 28, as a log has it. Another code has the empty text.
+/// The name of the check with this code, as a log has it. Another code has the empty text.
 ///
 /// ```
 /// assert_eq!(registry::refusal_word(18), "NotEnough");
