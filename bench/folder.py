@@ -28,7 +28,7 @@ sys.path[:0] = [str(TOP / "python"), str(TOP / "bench")]
 import days  # noqa: E402
 
 from registry_tools import layout, main as commands  # noqa: E402
-from registry_tools.office import approvals, folder, handed, people  # noqa: E402
+from registry_tools.office import approvals, folder, intake, people  # noqa: E402
 from registry_tools.office.office import Office  # noqa: E402
 from registry_tools.second import rules  # noqa: E402
 from registry_tools.store import daybook, past  # noqa: E402
@@ -226,11 +226,11 @@ class Maker:
             store.db.execute("INSERT OR IGNORE INTO texts VALUES (?, ?, ?)", (own, len(content), packed.result()))
         by, closer, second = (ANNA, BEN, CARLA) if self.four_eyes else (NOBODY, NOBODY, "")
         day_sum, report_sum, do_sum = sums
-        said = {"kind": handed.DO, "name": f"{date}-do.csv", "start": 1, "count": self.count, "text": do_sum}
+        said = {"kind": intake.DO, "name": f"{date}-do.csv", "start": 1, "count": self.count, "text": do_sum}
         store.add(Event(HANDED, at=f"{date}T08:00:00Z", login=by, who=by, **said))  # type: ignore[arg-type]
         if second:
-            there = handed.for_the_next_day(store)
-            own, name = approvals.sum_of_part(there, there.parts[0]), handed.places(1, self.count + 1)
+            there = intake.for_the_next_day(store)
+            own, name = approvals.sum_of_part(there, there.parts[0]), intake.places(1, self.count + 1)
             of = there.parts[0].event.id
             store.add(Event(APPROVED, at=f"{date}T09:00:00Z", login=closer, who=closer, of=of, sum=own, name=name))
         waits = [store.texts.put(pending.text_of([], pending.Made(date, own)).encode()) for own in (first, behind)]

@@ -8,7 +8,7 @@ from pathlib import Path
 from harness import TOP, Said, differs
 from offices import FILE, changed, events_of, handed_to, must_do, rows_of, text_of, told, unchanged
 
-from registry_tools.office import correct, folder, handed, people
+from registry_tools.office import correct, folder, intake, people
 
 WEEK, RULES = TOP / "examples" / "week", TOP / "tools" / "rules.py"
 MONDAY, TUESDAY, WEDNESDAY, THURSDAY = (f"2025-09-{day}" for day in (22, 23, 24, 25))
@@ -66,7 +66,7 @@ def texts_of(office: Path) -> dict[str, bytes]:
     found = {f"{date} {own}": text_of(office, date, own) for date in days for own in columns}
     with folder.at(office) as there:
         for event in there.events.days:
-            parts = handed.for_a_day(there.store, event).contents()
+            parts = intake.for_a_day(there.store, event).contents()
             found.update({f"{event.date} {kind}": content for kind, content in parts.items()})
     return found
 
@@ -173,7 +173,7 @@ def first_trials(work: Path) -> Iterator[Told]:
     without = ["--without", "61009", "--without", "61008", "--without", "61003"]
     yield "the first day", told(0, ["is corrected"], "correct", MONDAY, *without, *WHY, "--yes", *own)
     with folder.at(office) as there:
-        filed = handed.for_a_day(there.store, there.events.days[0])
+        filed = intake.for_a_day(there.store, there.events.days[0])
         stays = [(part.start, part.name) for part in filed.parts]
         yield "what stays", differs(stays, [(1, "monday.csv"), (7, "11.csv")])
         yield "who approved it", differs([(each.place, each.login) for each in filed.approved], [(7, f"{login}:eva")])

@@ -18,7 +18,7 @@ from offices import (
 )  # fmt: skip
 
 from registry_tools.office import close as closing
-from registry_tools.pairs import settling
+from registry_tools.pairs import settlement
 from registry_tools.second import rules
 from registry_tools.texts import settler
 from registry_tools.texts.day_text import read_day
@@ -236,7 +236,7 @@ def engine_fault(work: Path) -> object:
     program = work / "silent"
     program.write_text("#!/bin/sh\nexit 2\n")
     program.chmod(0o755)
-    engine = settling.engine_of(str(program))
+    engine = settlement.engine_of(str(program))
     return differs(engine.row(), f"program - - unproved {hashlib.sha256(program.read_bytes()).hexdigest()}")
 
 

@@ -18,7 +18,7 @@ from offices import content_of, events_of, text_of
 from second_login import with_lines
 
 from registry_tools.cli.words import user_name
-from registry_tools.office import approvals, folder, handed, people
+from registry_tools.office import approvals, folder, intake, people
 from registry_tools.second import rules
 from registry_tools.texts.report import read_report
 
@@ -101,7 +101,7 @@ class Filed:
     parts: list[Handed]
 
 
-def told_of(there: handed.HandedIn) -> dict[str, list[list[str]]]:
+def told_of(there: intake.HandedIn) -> dict[str, list[list[str]]]:
     """What was handed in, without times and sums."""
     parts = [
         [part.who, part.kind, str(part.start), str(part.count), str(part.earliest or ""), part.name, part.login]
@@ -435,7 +435,7 @@ class MonthOfThree(Month):
         parts = [part for part in self.parts if not self.is_left(part, date)]
         left = [part for part in self.parts if self.is_left(part, date)]
         with folder.at(self.office) as office:
-            filed = told_of(handed.for_a_day(office.store, office.events.days[-1]))
+            filed = told_of(intake.for_a_day(office.store, office.events.days[-1]))
         wanted = self.rows_of(parts)
         # (who approved what nobody has to approve any more is told, too)
         more = [own for own in filed["approved"] if own not in wanted["approved"]]

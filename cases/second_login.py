@@ -16,7 +16,7 @@ from harness import TOP, LeftOut, Said, differs
 from offices import FILE, chained_anew, changed, events_of, must_do, rows_of, told, unchanged
 
 from registry_tools.cli.words import user_name
-from registry_tools.office import folder, handed, people
+from registry_tools.office import folder, intake, people
 
 WEEK, RULES = TOP / "examples" / "week", TOP / "tools" / "rules.py"
 MONDAY, TUESDAY, WEDNESDAY = (f"2025-09-{day}" for day in (22, 23, 24))
@@ -135,7 +135,7 @@ def filed_of(office: Path, date: str) -> list[tuple[str, str, str]]:
     """Who handed in what came into a settled day, by name and login, and who approved it."""
     with folder.at(office) as there:
         (event,) = [own for own in there.events.days if str(own.date) == date]
-        own = handed.for_a_day(there.store, event)
+        own = intake.for_a_day(there.store, event)
         seconds = {approved.place: approved.login for approved in own.approved}
         return [(part.who, part.login, seconds.get(part.start, "")) for part in own.parts]
 

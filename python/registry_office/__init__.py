@@ -25,14 +25,14 @@ from registry_tools import opening
 from registry_tools.errors import Fault, FileFault, LateFault, RightsFault, RowFault, UnwrittenFault, WordsFault
 from registry_tools.layout import SETTINGS
 from registry_tools.office import folder
-from registry_tools.office.anchors import Anchor, anchor_of
+from registry_tools.office.kept_heads import Anchor, anchor_of
 from registry_tools.office.approvals import AskedFor
 from registry_tools.office.approve import approve_command, approve_places
 from registry_tools.office.change import Change, Changed, change_by_hand
 from registry_tools.office.close import Close, Closed, Doubts, Outcome, close
 from registry_tools.office.correct import Correct, Corrected, Shown, correct
 from registry_tools.office.hand_in import Added, HadFault, HandIn, hand_in, look_at
-from registry_tools.office.handed import Item, Part
+from registry_tools.office.intake import Item, Part
 from registry_tools.office.incoming import Forms, Given, TableFault
 from registry_tools.office.init import Init, init
 from registry_tools.office.label import Named, keep_names, one_name

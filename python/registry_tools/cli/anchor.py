@@ -12,7 +12,7 @@ import argparse
 
 from registry_tools.cli import words
 from registry_tools.elsewhere import Grown
-from registry_tools.office import anchors, folder
+from registry_tools.office import kept_heads, folder
 from registry_tools.layout import must_not_be_of_folder
 from registry_tools.output import write_answer
 
@@ -29,10 +29,10 @@ def add_words(parser: argparse.ArgumentParser) -> None:
 def run(said: argparse.Namespace) -> int:
     """Runs the command, and answers the exit status."""
     with folder.opened(said.office) as office:
-        anchor, head = anchors.anchor_of(office), office.events.head
+        anchor, head = kept_heads.anchor_of(office), office.events.head
     if said.kept is None:
         write_answer(f"{anchor.row()}\n", None)
         return 0
     must_not_be_of_folder(said.kept)
-    print(f"{said.kept}: anchors {anchors.keep(said.kept, anchor)}, the last one of {head}")
+    print(f"{said.kept}: anchors {kept_heads.keep(said.kept, anchor)}, the last one of {head}")
     return 0

@@ -16,7 +16,7 @@ from registry_tools.errors import WordsFault, shown
 from registry_tools.office import folder
 from registry_tools.pairs import naming
 from registry_tools.office.office import Office
-from registry_tools.texts.labels import ACCOUNT, Labels
+from registry_tools.texts.namebook import ACCOUNT, Labels
 from registry_tools.questions import days
 from registry_tools.questions.days import Days
 from registry_tools.showing import Cell

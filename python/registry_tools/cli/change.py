@@ -20,11 +20,11 @@ from registry_tools import tables, voice
 from registry_tools.cli import asked as asking, words
 from registry_tools.elsewhere import Source
 from registry_tools.errors import FOUND, WordsFault
-from registry_tools.office import change, folder, handed
+from registry_tools.office import change, folder, intake
 from registry_tools.pairs import edits
 from registry_tools.office.change import LAG, LAGS, Change
 from registry_tools.pairs.edits import ADD, DROP, OPEN, PUT, Edit
-from registry_tools.texts.labels import Labels
+from registry_tools.texts.namebook import Labels
 from registry_tools.cli.options import add_to
 from registry_tools.output import write_answer
 from registry_tools.texts.follows import read_pair
@@ -173,7 +173,7 @@ def run(said: argparse.Namespace) -> int:
     if came.part is None:
         print(f"this would be changed for {came.date}; nothing is, without {voice.option('yes')}")
         return FOUND
-    print(f"handed in for {came.date}: {handed.places(came.part.start, came.part.end)}")
+    print(f"handed in for {came.date}: {intake.places(came.part.start, came.part.end)}")
     print("".join(f"{line}\n" for line in came.waits), end="")
     return 0
 

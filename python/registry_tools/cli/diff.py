@@ -19,7 +19,7 @@ from registry_tools.office import folder
 from registry_tools.questions import days, diff
 from registry_tools.questions.days import Days
 from registry_tools.questions.diff import Side
-from registry_tools.texts.labels import Labels
+from registry_tools.texts.namebook import Labels
 
 EXAMPLE = "./day diff 2025-09-22 2025-09-23 --office out/office"
 COLUMNS = tables.COLUMNS["diff"]

@@ -14,7 +14,7 @@ from registry_tools import showing, tables
 from registry_tools.cli import answers, asked
 from registry_tools.cli.asked import Asked
 from registry_tools.errors import FOUND, WordsFault
-from registry_tools.texts.labels import USER
+from registry_tools.texts.namebook import USER
 from registry_tools.questions import find
 from registry_tools.questions.find import Find
 from registry_tools.second import faults

@@ -13,8 +13,8 @@ from collections.abc import Iterator
 from registry_tools import showing
 from registry_tools.elsewhere import Target
 from registry_tools.errors import WordsFault
-from registry_tools.texts.labels import COLUMNS as LABEL_COLUMNS
-from registry_tools.texts.labels import KINDS as LABEL_KINDS
+from registry_tools.texts.namebook import COLUMNS as LABEL_COLUMNS
+from registry_tools.texts.namebook import KINDS as LABEL_KINDS
 from registry_tools.cli.options import add_to
 from registry_tools.output import write_answer
 from registry_tools.second import faults

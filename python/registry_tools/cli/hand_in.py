@@ -16,9 +16,9 @@ import argparse
 
 from registry_tools.cli import files, importing, trial, words
 from registry_tools.elsewhere import Source
-from registry_tools.office import folder, hand_in, handed
+from registry_tools.office import folder, hand_in, intake
 from registry_tools.office.hand_in import HandIn
-from registry_tools.office.handed import places
+from registry_tools.office.intake import places
 from registry_tools.office.incoming import Forms
 from registry_tools.sheets.importing import read_mapping
 
@@ -48,7 +48,7 @@ def run(said: argparse.Namespace) -> int:
     with folder.opened(said.office) as office:
         added = hand_in.hand_in(office, words.by(said, office), asked)
     for part in added.parts:
-        count, there = f"{handed.NAMES[part.kind]} {part.count}", places(part.start, part.end)
+        count, there = f"{intake.NAMES[part.kind]} {part.count}", places(part.start, part.end)
         print(f"handed in: {part.name}: {count}, {there}")
     print("".join(f"{line}\n" for line in (*added.hidden, *added.waits)), end="")
     print("".join(f"again: {line}\n" for line in added.again), end="")

@@ -6,7 +6,7 @@ import argparse
 from registry_tools import tables
 from registry_tools.cli import answers, asked
 from registry_tools.errors import WordsFault
-from registry_tools.texts.labels import Labels
+from registry_tools.texts.namebook import Labels
 from registry_tools.questions.history import history
 
 EXAMPLE = "./day history 100377 --office out/office"

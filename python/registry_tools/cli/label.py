@@ -26,8 +26,8 @@ from registry_tools.office.label import MOST_TOLD, Named, one_name
 from registry_tools.sheets import importing, mapping as mappings, sheets
 from registry_tools.sheets.mapping import Mapping
 from registry_tools.sheets.table import Table
-from registry_tools.texts import labels
-from registry_tools.texts.labels import COLUMNS, KINDS, Label
+from registry_tools.texts import namebook
+from registry_tools.texts.namebook import COLUMNS, KINDS, Label
 from registry_tools.texts.rows import packed_bytes_of, rows_of_text
 
 EXAMPLE = './day label holder 5501 "Kalkwerk Nord" --why "a letter" --office out/office'
@@ -86,7 +86,7 @@ def must_fit(said: argparse.Namespace) -> None:
 
 def cells_of(said: argparse.Namespace, own: Label) -> list[showing.Cell]:
     """The columns of the list."""
-    name = own.name if answers.is_for_programs(said) else labels.in_sight(own.name)
+    name = own.name if answers.is_for_programs(said) else namebook.in_sight(own.name)
     more = (own.at or None, own.who or None, own.why or None)
     return [own.kind, int(own.number), name, *more]
 
@@ -107,8 +107,8 @@ def names_in(own: Given, mapping: str | None) -> Iterator[Label]:
     start = content[: len(max(KINDS, key=len)) + 4].decode("utf-8-sig", "replace")
     if mapping is None and start.lstrip().startswith(tuple(f"{kind}," for kind in KINDS)):
         source = rows_of_text(path, text_handed_in(own, content).decode("utf-8-sig", "surrogateescape"))
-        for place, named in enumerate(labels.rows_in(source)):
-            tidy = named._replace(name=labels.tidy(named.name))
+        for place, named in enumerate(namebook.rows_in(source)):
+            tidy = named._replace(name=namebook.tidy(named.name))
             found, expected = label.wrong_part(tidy, may_lack=True)
             if expected:
                 raise source.fault(place, "NAME", shown(found), expected)
@@ -130,7 +130,7 @@ def names_of_table(table: Table) -> Iterator[Label | FileFault]:
     there: dict[tuple[str, str], int] = {}
     for number, own in () if wrong else table.rows():
         said = table.with_always(own)
-        named = Label(said.get("kind", ""), said.get("number", ""), labels.tidy(said.get("name", "")))
+        named = Label(said.get("kind", ""), said.get("number", ""), namebook.tidy(said.get("name", "")))
         found, expected = label.wrong_part(named, may_lack="name" in table.columns)
         name = next((name for name in COLUMNS if said.get(name, "") == found), "name")
         first = there.setdefault(named[:2], number)
@@ -146,6 +146,6 @@ def lines_of(named: Named) -> Iterator[str]:
     """What was named how."""
     for own in named.new:
         old = named.before.named.get((own.kind, own.number))
-        was = f", which was {labels.in_sight(old.name)}" if old and own.name else ""
-        gone = f"{labels.in_sight(old.name)} no more" if old else ""
+        was = f", which was {namebook.in_sight(old.name)}" if old and own.name else ""
+        gone = f"{namebook.in_sight(old.name)} no more" if old else ""
         yield f"labelled: {own.kind} {own.number}: {own.name or gone}{was}"

@@ -2,8 +2,8 @@
 import argparse
 
 from registry_tools.elsewhere import Source
-from registry_tools.texts import labels
-from registry_tools.texts.labels import Labels
+from registry_tools.texts import namebook
+from registry_tools.texts.namebook import Labels
 
 
 def add_words(parser: argparse.ArgumentParser) -> None:
@@ -15,4 +15,4 @@ def add_words(parser: argparse.ArgumentParser) -> None:
 def labels_of(said: argparse.Namespace) -> Labels:
     """The names of the file that the word names, or of the folder whose day was named; without one none."""
     own: Labels | None = getattr(said, "names", None)
-    return labels.read(said.labels) if said.labels is not None else own or Labels()
+    return namebook.read(said.labels) if said.labels is not None else own or Labels()

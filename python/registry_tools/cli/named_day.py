@@ -125,10 +125,10 @@ def look_up_more(office: Office, date: str, said: argparse.Namespace) -> None:
     said.pending = said.pending or office.store.kept(day, "waiting")
     if not said.by_hand:
         # (most commands make no page)
-        from registry_tools.office import handed
+        from registry_tools.office import intake
         from registry_tools.pages.settled import told_by
 
-        said.told = told_by(handed.for_a_day(office.store, day).items(handed.CHANGES, handed.EDITS))
+        said.told = told_by(intake.for_a_day(office.store, day).items(intake.CHANGES, intake.EDITS))
     if before and not said.history and not said.before:
         own = office.store.pair_of(before[-1])
         said.before = [own.day, own.report]

@@ -6,7 +6,7 @@ import io
 import shutil
 from pathlib import Path
 
-from registry_tools.office import handed
+from registry_tools.office import intake
 from registry_tools.layout import PAPERS
 from registry_tools.office.office import Office
 from registry_tools.questions import statements
@@ -54,7 +54,7 @@ def make_pages(office: Office, filed: Event, place: Path) -> None:
     store = office.store
     pair, earlier = store.pair_of(filed), [own for own in store.events.days if own.date < filed.date]
     before = store.pair_of(earlier[-1]) if earlier else None
-    told = told_by(handed.for_a_day(store, filed).items(handed.CHANGES, handed.EDITS))
+    told = told_by(intake.for_a_day(store, filed).items(intake.CHANGES, intake.EDITS))
     own = Page(
         pair.day, pair.report, before=(before.day, before.report) if before else None,
         pending=store.kept(filed, "waiting"), told=told,

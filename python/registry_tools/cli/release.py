@@ -15,7 +15,7 @@ from registry_tools.notes import LOOK
 from registry_tools.office import folder, release
 from registry_tools.office.approvals import AskedFor
 from registry_tools.office.release import Release, Unproved
-from registry_tools.pairs import settling
+from registry_tools.pairs import settlement
 from registry_tools.store.events import HEAD_DIGITS
 
 EXAMPLE = './day release 2025-09-24 --why "statements were sent" --office out/office'
@@ -37,7 +37,7 @@ def run(said: argparse.Namespace) -> int:
     with folder.opened(said.office) as office:
         came = release.release(office, words.by(said, office), Release(date, why, said.yes))
         filed = office.events.day_of(date) if date else None
-        doubt = settling.doubt_of_sum(filed.engine, office.settings.program) if filed else ""
+        doubt = settlement.doubt_of_sum(filed.engine, office.settings.program) if filed else ""
     if isinstance(came, AskedFor):
         return words.tell_asked_for(came)
     if isinstance(came, Unproved):

@@ -26,7 +26,7 @@ from registry_tools.elsewhere import NewPlace, Source
 from registry_tools.errors import FOUND, WordsFault
 from registry_tools.notes import LOOK
 from registry_tools.office import folder, release
-from registry_tools.texts import labels
+from registry_tools.texts import namebook
 from registry_tools.office.approvals import AskedFor
 from registry_tools.office.office import By, Office
 from registry_tools.pages import send
@@ -96,7 +96,7 @@ def of_folder(said: argparse.Namespace) -> tuple[Sent, int]:
         assert day is not None  # (it is one of the dates)
         settings, waiting = office.settings, office.store.kept(day, "waiting")
         wanted = replace(wanted, pending=waiting, sender=settings.letters_from, due=settings.due)
-        names = office.names() if said.labels is None else labels.read(said.labels)
+        names = office.names() if said.labels is None else namebook.read(said.labels)
         by, is_released = words.by(said, office), office.events.is_released(day)
         if not is_released and said.release:
             must_be_proved(day)

@@ -13,7 +13,7 @@ from registry_tools.calendars import dates
 from registry_tools.cli import papers, words
 from registry_tools.office import folder, undo
 from registry_tools.office.approvals import AskedFor
-from registry_tools.office.handed import places
+from registry_tools.office.intake import places
 from registry_tools.office.undo import Undo
 
 EXAMPLE = './day undo 2025-09-24 --why "a surrender was entered for the wrong account" --office out/office'

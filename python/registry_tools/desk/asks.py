@@ -14,7 +14,7 @@ from registry_tools.desk.shown import (
 )  # fmt: skip
 from registry_tools.desk.words import LAGS
 from registry_tools.errors import FileFault, WordsFault
-from registry_tools.office import handed, label, trial
+from registry_tools.office import intake, label, trial
 from registry_tools.office.incoming import Forms, Given
 from registry_tools.office.office import sum_of_outcome
 from registry_tools.office.trial import Looked, whys
@@ -152,7 +152,7 @@ def page_of_files(served: Served, key: str, asked: Asked) -> Any:
         is_typed=looks.is_typed(files), again=[("again", f"{file}:{line}") for file, line in again], dates=forms.DATES,
         choose=address_of("/hand-in", {"dates": dates or None}), now_dates=dates,
         shown=sum_of_outcome(own.added.outcome()) if own.added else "",
-        counts=[(i.name, f"{handed.NAMES[i.kind]} {i.count}") for i in own.added.parts] if own.added else [],
+        counts=[(i.name, f"{intake.NAMES[i.kind]} {i.count}") for i in own.added.parts] if own.added else [],
         rows=[(own.place, own.words, *proposal(served, own), own.said(), own) for own in refused_first(own.looked)],
         outcomes=trial.counts_of(own.looked),
         shown_row=lambda row: (*row[:4], outcome(row[5])), names=[own.name for own in files],

@@ -12,7 +12,7 @@ from registry_tools.calendars import years
 from registry_tools.desk.reading import Reading
 from registry_tools.desk.words import LAGS, label
 from registry_tools.errors import WordsFault, shown
-from registry_tools.texts.labels import ACCOUNT, USER, Labels
+from registry_tools.texts.namebook import ACCOUNT, USER, Labels
 from registry_tools.pages.beside import called
 from registry_tools.second import faults, passing, rules
 from registry_tools.sheets import columns as sheets

@@ -10,11 +10,11 @@ from registry_tools.desk.reading import Reading
 from registry_tools.desk.words import label
 from registry_tools.errors import Fault, WordsFault
 from registry_tools.office import (
-    approvals, approve, change, composing, hand_in, handed, label as labelling, trial, undo,
+    approvals, approve, change, composing, hand_in, intake, label as labelling, trial, undo,
 )  # fmt: skip
 from registry_tools.office.change import Change, Changed
 from registry_tools.office.hand_in import HandIn
-from registry_tools.office.handed import HandedIn, Part
+from registry_tools.office.intake import HandedIn, Part
 from registry_tools.office.incoming import Forms, Given, TableFault
 from registry_tools.office.office import By, sum_of_outcome
 from registry_tools.office.waits import waits_of
@@ -22,7 +22,7 @@ from registry_tools.cli.options import TellingWords
 from registry_tools.pages.beside import item_in_words, side_by_side
 from registry_tools.pairs.edits import Edit
 from registry_tools.texts.in_words import instruction_in_words
-from registry_tools.texts.labels import Label, Labels
+from registry_tools.texts.namebook import Label, Labels
 
 # What an instruction that was typed is called.
 TYPED = "typed at the desk.csv"
@@ -54,7 +54,7 @@ def look_at_incoming(own: Reading, by: By, files: list[Given], again: list[tuple
     try:
         with own.anew() as office, office.trying("hand-in", by):
             added = hand_in.added(office, asked)
-            there = handed.for_the_next_day(office.store)
+            there = intake.for_the_next_day(office.store)
             rows = [(part.name, there.rows(part).rows[:MOST_ROWS]) for part in added.parts]
         looked = [tried for tried in added.looked if tried.place in added.places()]
         return Look([], None, added, looked, rows)
@@ -121,7 +121,7 @@ def look_at_waiting(own: Reading, handed_in: HandedIn, waits: approvals.Waits) -
         assert part is not None
         office, rows = own.office(), approve.rows_left(handed_in, part)
         becomes, outcomes = change.look_at_waiting(office, handed_in, part), outcomes_with(own, handed_in, part)
-        there = [item for item in handed_in.items_left(part)] if part.kind in (handed.DO, handed.WORK) else []
+        there = [item for item in handed_in.items_left(part)] if part.kind in (intake.DO, intake.WORK) else []
         items = [(item_in_words(item), outcomes.get(item.place, "")) for item in there]
         return Second(waits, [*side_by_side(becomes)], items, sum_of_outcome([*rows, *becomes]))
 
@@ -130,7 +130,7 @@ def look_at_waiting(own: Reading, handed_in: HandedIn, waits: approvals.Waits) -
 
 def outcomes_with(own: Reading, handed_in: HandedIn, part: Part) -> dict[int, str]:
     """What would come of instructions that wait for another login, by their places, if they counted."""
-    if part.kind != handed.DO:
+    if part.kind != intake.DO:
         return {}
     others = [each for each in handed_in.waiting if each.start != part.start]
     # (what keeps them out of the next day is told where that day is made)
@@ -150,7 +150,7 @@ def look_at_undo(own: Reading, by: By, last: datetime.date, date: datetime.date)
         filed = undo.last_of(office, last)
         undo.taken_back(office, filed, date, NO_REASON, "")
         there = approvals.handed_in_of(office)
-        rows: Rows = [(i.place, item_in_words(i), i.part.name, i.part.who) for i in there.items(*handed.KINDS)]
+        rows: Rows = [(i.place, item_in_words(i), i.part.name, i.part.who) for i in there.items(*intake.KINDS)]
         waits = [(str(w.due or ""), w.record, instruction_in_words(w.instruction)) for w in waits_of(office)]
         return rows, [*waits], sum_of_outcome(undo.comes_again(office))
 

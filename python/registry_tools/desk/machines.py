@@ -18,7 +18,7 @@ from registry_tools.desk.shown import asked
 from registry_tools.door import log
 from registry_tools.errors import FOUND, FileFault, RightsFault, WordsFault
 from registry_tools.notes import worth_telling
-from registry_tools.office import hand_in as handing, handed, trial
+from registry_tools.office import hand_in as handing, intake, trial
 from registry_tools.office.hand_in import HandIn
 from registry_tools.office.incoming import Forms, Given
 from registry_tools.questions.status import status as how_it_stands
@@ -68,7 +68,7 @@ def hand_in(served: Served) -> Response:
     log.begun("hand-in", gate.known_name(served), gate.head().peer)
     with served.jobs.looking, served.reading.anew() as office:
         came = handing.hand_in(office, by, HandIn(tuple(files), again, Forms(dates=str(dates) if dates else None)))
-    parts = [{"name": own.name, "what": handed.NAMES[own.kind], "count": own.count, "first": own.start,
+    parts = [{"name": own.name, "what": intake.NAMES[own.kind], "count": own.count, "first": own.start,
               "last": own.end - 1} for own in came.parts]  # fmt: skip
     looked = [own for own in came.looked if own.place in came.places()]
     more = {"handed_in": parts, "waits": came.waits, "again": came.again}

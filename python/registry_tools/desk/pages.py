@@ -19,7 +19,7 @@ from registry_tools.desk.reading import Reading
 from registry_tools.desk.shown import asked, number_asked, row_of_taken, show_page, sorted_table
 from registry_tools.errors import Fault, WordsFault
 from registry_tools.notes import LOOK
-from registry_tools.office import approvals, approve, handed, release as releasing, undo as undoing
+from registry_tools.office import approvals, approve, intake, release as releasing, undo as undoing
 from registry_tools.office.office import Office
 from registry_tools.office.trial import Looked, whys
 from registry_tools.office.waits import waits_of
@@ -30,9 +30,9 @@ from registry_tools.pages.plan import plan_parts
 from registry_tools.pages.settled import (
     OUTCOMES, Settled, by_hand_parts, joined_words, kind_of, long_date, outcome_in_words, record_in_words,
 )  # fmt: skip
-from registry_tools.pairs import settling
+from registry_tools.pairs import settlement
 from registry_tools.pairs.compliance import last_year_over
-from registry_tools.questions import due, taken
+from registry_tools.questions import due, receipts
 from registry_tools.second import faults, passing, rules
 from registry_tools.cli import form
 from registry_tools.texts.books import Sums, sums_of, sums_told
@@ -60,7 +60,7 @@ def today(served: Served) -> Any:
     last = office.last()
     items = [
         (item.place, item_in_words(item), item.part.name, item.part.who, voice.time(item.part.at))
-        for item in handed_in.items(*handed.KINDS)
+        for item in handed_in.items(*intake.KINDS)
     ]
     waits = [
         (str(w.due or "no due day in the calendar"), w.record, instruction_in_words(w.instruction))
@@ -76,7 +76,7 @@ def today(served: Served) -> Any:
     return show_page(
         "today", f"{name}, today" if name else "Today", last=last, is_released=office.events.is_released(),
         items=items, waits=waits, came=own.came,
-        missed=due.missed_days(office), taken=[*map(row_of_taken, taken.of(handed_in))],
+        missed=due.missed_days(office), taken=[*map(row_of_taken, receipts.of(handed_in))],
         coming=due.next_dates(office, MOST_COMING), dates=own.dates(), doubts=due.doubts_of_last(office),
         new=[tried for tried in looked if tried.is_new], mine=mine, figures=figures_of(looked, len(seconds)),
         seconds=[each for each in seconds if each not in mine], **standing_now(own),
@@ -155,7 +155,7 @@ def next_day(served: Served) -> Any:
     only = asked("only") if asked("only") in kinds else ""
     rows = [(tried.place or 0, tried.words, tried.said(), tried) for tried in looked if kinds[only](tried)]
     handed_in = served.reading.handed_in()
-    items, gone = handed_in.items(handed.CHANGES, handed.EDITS, handed.WORK), taken.of(handed_in)
+    items, gone = handed_in.items(intake.CHANGES, intake.EDITS, intake.WORK), receipts.of(handed_in)
     counts = {name: sum(map(is_so, looked)) for name, is_so in kinds.items()}
 
     def cells(row: Sequence[Any]) -> Sequence[Any]:
@@ -209,9 +209,9 @@ def close(served: Served) -> Any:
     own, why, outcome_of, comes = served.reading, "", None, ""
     dates, program = own.dates(), own.office().settings.program
     # (by its name alone: where a program lies on the disk is nothing for a page)
-    settler = settling.settler_in_words(os.path.basename(program))
-    is_built = settler == settling.BY_RUN
-    named = f"{settling.RUN.name}, {settling.BUILDS}" if is_built else settler
+    settler = settlement.settler_in_words(os.path.basename(program))
+    is_built = settler == settlement.BY_RUN
+    named = f"{settlement.RUN.name}, {settlement.BUILDS}" if is_built else settler
     engines = [("", f"by {named}, and compared with the second answer")] if settler else []
     date = asked("other") or asked("date") or str(dates[0])
     try:
@@ -241,7 +241,7 @@ def totals_of(before: Mapping[str, Sums], after: Mapping[str, Sums]) -> Markup:
 
 def day_rows(served: Served) -> list[tuple[Any, ...]]:
     """All settled days, the last one first."""
-    told = taken.days_told(served.reading.office())
+    told = receipts.days_told(served.reading.office())
     return [(str(own.date), own.who, voice.time(own.at), own.next - own.first, *more) for own, *more in told]
 
 
@@ -329,8 +329,8 @@ def parts_of(settled: Settled, own: Reading) -> Iterator[Markup]:
         for code, logged in settled.refused().items()
     ]
     office, event = own.office(), own.office().events.day_of(settled.head.date)
-    gone = [*map(row_of_taken, taken.of_day(office, settled.head.date))]
-    files = [(*row, voice.time(at)) for *row, at in taken.files_of(office, event)] if event else []
+    gone = [*map(row_of_taken, receipts.of_day(office, settled.head.date))]
+    files = [(*row, voice.time(at)) for *row, at in receipts.files_of(office, event)] if event else []
     yield summary.lead(settled)
     if settled.log:
         yield summary.acts_table(settled)

@@ -31,7 +31,7 @@ from registry_tools.pages.html import Markup, link
 from registry_tools.pages.month import Month
 from registry_tools.pages.settled import REFUSED, WAITS, Settled, joined_words, outcome_in_words, record_in_words
 from registry_tools.pairs import compliance as answers
-from registry_tools.questions import changes, taken
+from registry_tools.questions import changes, receipts
 from registry_tools.questions.days import Days
 from registry_tools.questions.find import Find, accounts_meant, cells_of as cells_of_found, count_found
 from registry_tools.questions.find import find as found_by
@@ -45,7 +45,7 @@ from registry_tools.sheets.writing import Written, write_workbook
 from registry_tools.showing import Cell, as_csv, as_json
 from registry_tools.tables import Columns
 from registry_tools.texts.in_words import grouped
-from registry_tools.texts.labels import ACCOUNT, KINDS, USER, Labels
+from registry_tools.texts.namebook import ACCOUNT, KINDS, USER, Labels
 from registry_tools.texts.report import LogRow
 
 WORKBOOK = "application/vnd.openxmlformats-officedocument.spreadsheetml.sheet"
@@ -320,7 +320,7 @@ def cell_of(value: object) -> Cell:
 
 def days_file(served: Served, kind: str) -> Response:
     """All settled days, as a file."""
-    there = reversed([*taken.days_told(served.reading.office())])
+    there = reversed([*receipts.days_told(served.reading.office())])
     rows: list[Sequence[Cell]] = [
         (str(own.date), own.who, own.at, own.first, own.next, engine, is_out) for own, engine, is_out in there
     ]
@@ -341,12 +341,12 @@ def month_file(served: Served, kind: str) -> Response:
 def journal(served: Served) -> Any:
     """The page of what was done in the folder, and changed by hand."""
     office = served.reading.office()
-    who = functools.partial(taken.who_and_second, office)
+    who = functools.partial(receipts.who_and_second, office)
     events = [(voice.time(own.at), own.what, str(own.date), who(own.who, own.login, own.approved), own.why)
               for own in reversed(office.events.of_days())]  # fmt: skip
     by_hand = [(day, voice.time(own.part.at), who(own.part.who, own.part.login, second), own.part.name,
                 item_in_words(own)) for day, own, second in changes.items_of(office)]  # fmt: skip
-    gone = [(day, *row_of_taken(own)) for day, own in taken.of_all(office)]
+    gone = [(day, *row_of_taken(own)) for day, own in receipts.of_all(office)]
     return show_page("journal", "Journal", events=events, by_hand=[*reversed(by_hand)], taken=[*reversed(gone)])
 
 

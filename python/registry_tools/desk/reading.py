@@ -18,9 +18,9 @@ from registry_tools import voice
 from registry_tools.calendars.dates import date_of
 from registry_tools.errors import Fault
 from registry_tools.layout import SETTINGS
-from registry_tools.office import approvals, close, composing, folder, handed, trial
+from registry_tools.office import approvals, close, composing, folder, intake, trial
 from registry_tools.office.composing import NextDay
-from registry_tools.office.handed import HandedIn
+from registry_tools.office.intake import HandedIn
 from registry_tools.office.office import Office, sum_of_outcome
 from registry_tools.office.waits import waiting_behind
 from registry_tools.pages import compliance as standing, indexed, month, send
@@ -39,7 +39,7 @@ from registry_tools.store import file, past
 from registry_tools.store.events import LABELLED, Event
 from registry_tools.texts.checks import checks, form_words
 from registry_tools.texts.day_text import DayText
-from registry_tools.texts.labels import Labels
+from registry_tools.texts.namebook import Labels
 
 T = TypeVar("T")
 # What takes longer than so many seconds is large.
@@ -223,7 +223,7 @@ class Reading:
         def work() -> ByHand:
             *before, own = past.read_all([office.store.pair_of(event) for event in filed])
             pair = (before[0].day, before[0].report) if before else None
-            items = handed.for_a_day(office.store, filed[-1]).items(handed.CHANGES, handed.EDITS)
+            items = intake.for_a_day(office.store, filed[-1]).items(intake.CHANGES, intake.EDITS)
             told = [[voice.time(at), *more] for at, *more in told_by(items)]
             return by_hand_before(pair, own.day, told)
 

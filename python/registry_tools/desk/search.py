@@ -15,7 +15,7 @@ from registry_tools.pages.settled import joined_words
 from registry_tools.questions.days import Days
 from registry_tools.questions.records import count_logged, logged
 from registry_tools.texts.checks import Check, checks
-from registry_tools.texts.labels import ACCOUNT, HOLDER
+from registry_tools.texts.namebook import ACCOUNT, HOLDER
 from registry_tools.texts.report import LogRow
 
 # So many names are told, and the log rows that a number or a check names.

@@ -13,7 +13,7 @@ from registry_tools.desk.questions import download
 from registry_tools.desk.shown import asked, show_page
 from registry_tools.errors import FileFault
 from registry_tools.layout import SETTINGS
-from registry_tools.office import anchors, people, settings
+from registry_tools.office import kept_heads, people, settings
 from registry_tools.office.settings import Settings
 
 WHO = ["Login", "Name", "May"]
@@ -93,5 +93,5 @@ def copy(served: Served, number: str, name: str) -> Response:
 
 def anchor(served: Served) -> Response:
     """The head of the folder, as a line to be kept elsewhere."""
-    line = f"{anchors.anchor_of(served.reading.office()).row()}\n"
+    line = f"{kept_heads.anchor_of(served.reading.office()).row()}\n"
     return refused(served) or download(line.encode(), "text/csv; charset=utf-8", f"anchor-{datetime.date.today()}.csv")

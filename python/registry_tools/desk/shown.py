@@ -15,7 +15,7 @@ from registry_tools.errors import WordsFault
 from registry_tools.office import trial
 from registry_tools.pages.beside import item_in_words
 from registry_tools.pages.html import Markup, Table, joined, link, markup, paragraph, sort_key, tag
-from registry_tools.questions import taken
+from registry_tools.questions import receipts
 
 # The word of an address that only fills the form of a page with what was typed.
 TYPED = "typed"
@@ -89,7 +89,7 @@ def outcome(own: trial.Looked) -> object:
     return Markup(f"{tag('strong', own.said())} {markup(own.why)}") if own.is_refused else own.said()
 
 
-def row_of_taken(own: taken.TakenBack) -> tuple[object, ...]:
+def row_of_taken(own: receipts.TakenBack) -> tuple[object, ...]:
     """What was taken back: its place, what it was or, behind the close, its file, who did it, when and why."""
     what = item_in_words(own.item) if own.item else f"a row of {own.part.name}" if own.part else ""
     return own.taken.place, what, own.taken.who, voice.time(own.taken.at), own.taken.why

@@ -6,7 +6,7 @@ from collections.abc import Iterator, Mapping
 
 from registry_tools.errors import shown
 from registry_tools.holders.own import Own, NotTaken, may_approve
-from registry_tools.office import approvals, approve, composing, hand_in, handed, incoming, people
+from registry_tools.office import approvals, approve, composing, hand_in, intake, incoming, people
 from registry_tools.office.hand_in import HadFault, Here
 from registry_tools.office.incoming import Given, Incoming
 from registry_tools.office.office import By, Office, sum_of_outcome
@@ -90,7 +90,7 @@ def ask(office: Office, by: By, own: Own, row: bytes, is_meant: bool) -> None:
             hand_in.refuse_instructions(office, here, came)
         except HadFault:
             raise AskedBefore(HAD) from None
-        handed.put(office, there, handed.DO, came.content, came.count, NAME)
+        intake.put(office, there, intake.DO, came.content, came.count, NAME)
 
 
 def must_be_own(own: Own, person: Person, rows: list[str]) -> None:
@@ -117,5 +117,5 @@ def approve_own(office: Office, by: By, own: Own, key: str) -> None:
             raise NotTaken("this does not wait for you any more")
         part = found[0]
         approve.must_be_other(office, (OWN,), part.who, part.login)
-        where = handed.places(part.start, part.end)
+        where = intake.places(part.start, part.end)
         office.add(APPROVED, of=part.event.id, sum=approvals.sum_of_part(there, part), name=where)

@@ -11,8 +11,8 @@ from collections.abc import Iterable, Mapping, Sequence
 from dataclasses import dataclass, replace
 
 from registry_tools.calendars.deadlines import DueDates
-from registry_tools.office import approvals, handed, people
-from registry_tools.office.handed import HandedIn, Part
+from registry_tools.office import approvals, intake, people
+from registry_tools.office.intake import HandedIn, Part
 from registry_tools.office.office import Office, sum_of_outcome
 from registry_tools.pages.html import Cells, Markup, Table
 from registry_tools.pages.letter import LetterStatement
@@ -112,7 +112,7 @@ class Own:
     def rows_handed(self, there: HandedIn) -> Iterable[tuple[Part, str]]:
         """The rows of instructions that count, of the accounts, each with its part."""
         for part in there.parts:
-            for item in there.items_left(part) if part.kind == handed.DO else ():
+            for item in there.items_left(part) if part.kind == intake.DO else ():
                 if int(item.rows[0].split(",", 6)[5]) in self.book:
                     yield part, item.rows[0]
 

@@ -15,14 +15,14 @@ from collections.abc import Collection, Iterator
 from typing import NamedTuple
 
 from registry_tools import voice
-from registry_tools.office import handed, people
-from registry_tools.office.handed import Approved, HandedIn, Part
+from registry_tools.office import intake, people
+from registry_tools.office.intake import Approved, HandedIn, Part
 from registry_tools.office.office import Office
 from registry_tools.store.events import APPROVED, ASKED, Event
 from registry_tools.store.texts import sum_of
 
 # Which command something that was handed in waits for, by what it has.
-COMMAND_OF = {handed.DO: "hand-in", handed.WORK: "hand-in", handed.CHANGES: "change", handed.EDITS: "change"}
+COMMAND_OF = {intake.DO: "hand-in", intake.WORK: "hand-in", intake.CHANGES: "change", intake.EDITS: "change"}
 # What takes days back and closes them waits as these do.
 LIKE = {"correct": ("correct", "close", "undo")}
 # By these words a command says that it waits.
@@ -148,7 +148,7 @@ def is_own(office: Office, part: Part, login: str = "") -> bool:
     login of this holder, which so may approve it."""
     people_there = office.people
     own, other = (people_there.named.get(people.person_of(each)) for each in (part.login, login or part.login))
-    if not own or not other or not people_there.may_have(part.login, people.OWN) or part.kind != handed.DO:
+    if not own or not other or not people_there.may_have(part.login, people.OWN) or part.kind != intake.DO:
         return False
     text = office.store.texts.get(part.sum).decode("utf-8", "surrogateescape")
     users = {user for row in text.splitlines() if row != "end" for user in row.split(",")[2:4] if user}
@@ -158,7 +158,7 @@ def is_own(office: Office, part: Part, login: str = "") -> bool:
 
 def handed_in_of(office: Office) -> HandedIn:
     """What was handed in for the next day: with what waits for another login, and who approved the others."""
-    there = handed.for_the_next_day(office.store)
+    there = intake.for_the_next_day(office.store)
     there.waiting, there.approved = [], []
     asked = [part for part in there.parts if needs_second(office, part) and there.left_of(part)]
     given = all_approvals(office) if asked else []
@@ -253,7 +253,7 @@ def all_waiting(office: Office, handed_in: HandedIn) -> Iterator[Waits]:
     """What waits for whom, and what was approved and can be done."""
     for part in handed_in.waiting:
         command, place = COMMAND_OF[part.kind], str(part.start)
-        where, by = handed.places(part.start, part.end), who_did(office, part.who, part.login)
+        where, by = intake.places(part.start, part.end), who_did(office, part.who, part.login)
         second = second_for(office, (command,), part.login)
         way_of_part = voice.command("approve", place)
         yield Waits(f"{where}, {command} by {by}, waits for {second}", where, way_of_part, (place,), part)
@@ -275,7 +275,7 @@ def told_of_new(office: Office, parts: list[Part]) -> list[str]:
     for part in parts:
         if needs_second(office, part):
             commands = (COMMAND_OF[part.kind],)
-            who, where = second_for(office, commands, office.login), handed.places(part.start, part.end)
+            who, where = second_for(office, commands, office.login), intake.places(part.start, part.end)
             wait, does = ("waits", "does") if part.end == part.start + 1 else ("wait", "do")
             way_of_part = voice.command("approve", part.start)
             told.append(f"{where} {wait} for {who}, and {does} not count before: {way_of_part}")

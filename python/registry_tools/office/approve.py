@@ -6,9 +6,9 @@ from dataclasses import dataclass
 
 from registry_tools import voice
 from registry_tools.errors import WordsFault
-from registry_tools.office import approvals, change, composing, handed, people
+from registry_tools.office import approvals, change, composing, intake, people
 from registry_tools.office.approvals import COMMAND_OF, Asked
-from registry_tools.office.handed import HandedIn, Part
+from registry_tools.office.intake import HandedIn, Part
 from registry_tools.office.office import By, Office, sum_of_outcome
 from registry_tools.office.people import MAY_WAIT
 from registry_tools.store.events import APPROVED
@@ -44,7 +44,7 @@ def approve_places(office: Office, by: By, places: tuple[str, ...]) -> list[Appr
         handed_in = approvals.handed_in_of(office)
         parts = [part_at(office, handed_in, word) for word in places]
         for part in left_to_approve(office, handed_in, parts):
-            where, becomes = handed.places(part.start, part.end), change.look_at_waiting(office, handed_in, part)
+            where, becomes = intake.places(part.start, part.end), change.look_at_waiting(office, handed_in, part)
             sum_asked = approvals.sum_of_part(handed_in, part)
             office.add(APPROVED, of=part.event.id, sum=sum_asked, name=where)
             by_whom = approvals.who_did(office, part.who, part.login)

@@ -8,10 +8,10 @@ from dataclasses import dataclass, replace
 from registry_tools import tables, voice
 from registry_tools.errors import Fault, WordsFault
 from registry_tools.notes import LOOK, Notes
-from registry_tools.office import approvals, composing, handed
+from registry_tools.office import approvals, composing, intake
 from registry_tools.pairs import edits, next as next_day
 from registry_tools.pairs.edits import PUT, Edit, EditFault
-from registry_tools.office.handed import HandedIn, Part
+from registry_tools.office.intake import HandedIn, Part
 from registry_tools.office.office import By, Office
 from registry_tools.texts.accounts import Block
 from registry_tools.texts.day_text import DayText
@@ -64,7 +64,7 @@ def changed(office: Office, asked: Change) -> Changed:
     made = [*with_all_lags(asked.edits, text_before.head.lags)]
     try:
         content = text_of_rows([edit.row() for edit in made])
-        part = handed.put(office, handed_in, handed.EDITS, content, len(made), asked.why)
+        part = intake.put(office, handed_in, intake.EDITS, content, len(made), asked.why)
         after = composing.compose(office, handed_in.until(date), date)
     except EditFault as fault:
         # (it has no place yet)
@@ -107,7 +107,7 @@ def account_differences(before: dict[int, Block], after: dict[int, Block]) -> It
 def look_at_waiting(office: Office, handed_in: HandedIn, part: Part) -> list[str]:
     """The rows that go and come if a change that waits for another login counts; none, if the next day can't have
     it, or if it is none by hand."""
-    if part.kind not in (handed.CHANGES, handed.EDITS):
+    if part.kind not in (intake.CHANGES, intake.EDITS):
         return []
     others = [own for own in handed_in.waiting if own.start != part.start]
     # (what keeps it out of the next day is told where that day is made)

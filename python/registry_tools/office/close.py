@@ -11,11 +11,11 @@ from registry_tools import voice
 from registry_tools.calendars.due_days import NOT_DUE
 from registry_tools.errors import WordsFault, raise_first
 from registry_tools.notes import LOOK, counted, worth_telling
-from registry_tools.office import approvals, composing, handed, trial
-from registry_tools.pairs import settling
+from registry_tools.office import approvals, composing, intake, trial
+from registry_tools.pairs import settlement
 from registry_tools.office.approvals import AskedFor
 from registry_tools.office.composing import NextDay
-from registry_tools.office.handed import HandedIn, Part
+from registry_tools.office.intake import HandedIn, Part
 from registry_tools.office.office import By, Office
 from registry_tools.office.program import named_program
 from registry_tools.office.waits import waits_text
@@ -140,11 +140,11 @@ def left_for_later(handed_in: HandedIn, date: datetime.date) -> list[str]:
     """Tells what was handed in and does not come into the day, since it waits for another login, or is of a later one
     that was undone."""
     left = []
-    places = [handed.places(part.start, part.end) for part in handed_in.waiting]
+    places = [intake.places(part.start, part.end) for part in handed_in.waiting]
     if places:
         waits = f"waits for another login: {', '.join(places)}; see {voice.command('approve')}"
         left.append(f"{LOOK}: not in this day, and {waits}")
-    items = [item for item in handed_in.items(*handed.KINDS) if item.part.is_of_later(date)]
+    items = [item for item in handed_in.items(*intake.KINDS) if item.part.is_of_later(date)]
     if items:
         first = min(item.part.earliest for item in items if item.part.earliest)
         more = f"handed in for {first} or later: {len(items)}; {voice.command('status')} shows them"
@@ -155,7 +155,7 @@ def left_for_later(handed_in: HandedIn, date: datetime.date) -> list[str]:
 def hand_in_again(office: Office, old: HandedIn, parts: list[Part]) -> None:
     """Hands in again, behind a day that was filed or undone, what is left of these parts."""
     trial.forget(office)
-    handed.put_left(office, HandedIn(office.store), old, parts)
+    intake.put_left(office, HandedIn(office.store), old, parts)
 
 
 # Settling it.
@@ -165,8 +165,8 @@ def settle(office: Office, composed: NextDay, by_second: bool, verifies: bool = 
     """Settles the day, and looks whether the report is that of the day and what the rules make of it."""
     day = composed.day(voice.path(f"{office.store.path}/{composed.date}/day.csv"))
     program = "" if by_second else named_program(office)
-    text = settling.by_rules(day) if by_second else settling.by_engine(program, composed.text)
-    engine = SECOND_ANSWER if by_second else settling.engine_of(program)
+    text = settlement.by_rules(day) if by_second else settlement.by_engine(program, composed.text)
+    engine = SECOND_ANSWER if by_second else settlement.engine_of(program)
     whose = "the second answer" if by_second else program or "the program"
     source = rows_of_text(f"the report of {whose}", text.decode("utf-8", "surrogateescape"))
     report = report_of(source, day)

@@ -12,7 +12,7 @@ from registry_tools.errors import FileFault, WordsFault, shown
 from registry_tools.notes import BY_HAND, LOOK, Notes
 from registry_tools.pairs import edits, next as next_day
 from registry_tools.pairs.edits import Edit, EditFault
-from registry_tools.office.handed import CHANGES, DO, EDITS, FIRST, KINDS, NAMES, WORK, HandedIn, Item
+from registry_tools.office.intake import CHANGES, DO, EDITS, FIRST, KINDS, NAMES, WORK, HandedIn, Item
 from registry_tools.office.office import Office
 from registry_tools.second import faults, rules
 from registry_tools.store import past

@@ -10,13 +10,13 @@ from registry_tools import voice
 from registry_tools.calendars.due_days import NOT_DUE, head_after
 from registry_tools.errors import Fault, WordsFault
 from registry_tools.notes import LOOK
-from registry_tools.office import approvals, close, composing, hand_in, handed, incoming, people, trial
+from registry_tools.office import approvals, close, composing, hand_in, intake, incoming, people, trial
 from registry_tools.pairs import differing
 from registry_tools.office.approvals import AskedFor
 from registry_tools.office.close import Settled
 from registry_tools.pairs.edits import place_of_row
 from registry_tools.office.hand_in import Here
-from registry_tools.office.handed import CHANGES, DO, FIRST, HandedIn, Item, Part
+from registry_tools.office.intake import CHANGES, DO, FIRST, HandedIn, Item, Part
 from registry_tools.office.incoming import Given, Incoming
 from registry_tools.office.office import By, Office
 from registry_tools.office.waits import waits_of
@@ -177,7 +177,7 @@ class Correction:
         self.since = approvals.handed_in_of(self.office)
         self.waits = waits_of(self.office)
         self.days = [event for event in self.all_days if event.date >= self.asked.date]
-        self.filed = [handed.for_a_day(store, event) for event in self.days]
+        self.filed = [intake.for_a_day(store, event) for event in self.days]
         self.before = [*past.read_all([store.pair_of(event) for event in self.days])]
         for record in self.asked.without:
             self.logged(record)
@@ -277,7 +277,7 @@ class Correction:
             rows = [*others, *rows, "end"]
         elif not left:
             return
-        handed.put_again(self.office, there, part, text_of_rows(rows), len(left), date)
+        intake.put_again(self.office, there, part, text_of_rows(rows), len(left), date)
 
     def rows_again(self, item: Item, date: datetime.date, reports: Reports | None) -> list[str]:
         """The rows of something that is handed in again. Of an account that was handed in as a whole, what a hand

@@ -5,8 +5,8 @@ from collections.abc import Iterator
 from dataclasses import dataclass
 
 from registry_tools import voice
-from registry_tools.office import handed
-from registry_tools.office.handed import CHANGES, begins_item
+from registry_tools.office import intake
+from registry_tools.office.intake import CHANGES, begins_item
 from registry_tools.office.office import Office
 from registry_tools.store.events import HANDED, Event
 from registry_tools.texts.rows import rows_of_text
@@ -76,7 +76,7 @@ def accounts_had(office: Office) -> dict[tuple[str, ...], str]:
     """The blocks of accounts that settled days have had, each with the last of these days."""
     found = {}
     for event in office.events.days:
-        for item in handed.for_a_day(office.store, event).items(CHANGES):
+        for item in intake.for_a_day(office.store, event).items(CHANGES):
             found[tuple(item.rows)] = str(event.date)
     return found
 
@@ -86,7 +86,7 @@ def file_had(office: Office, sum_of_file: str) -> str:
     if not any(own.what == HANDED and own.text == sum_of_file for own in office.events.all):
         return ""
     for event in office.events.days:
-        for part in handed.for_a_day(office.store, event).parts:
+        for part in intake.for_a_day(office.store, event).parts:
             if part.sum == sum_of_file:
                 return f"for {event.date}, by {part.who} at {voice.time(part.at)} as {part.name}"
     return ""

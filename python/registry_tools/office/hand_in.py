@@ -6,9 +6,9 @@ from typing import NamedTuple
 from registry_tools import voice
 from registry_tools.calendars.due_days import NOT_DUE
 from registry_tools.errors import FileFault, WordsFault
-from registry_tools.office import approvals, composing, earlier, handed, incoming, people, trial
+from registry_tools.office import approvals, composing, earlier, intake, incoming, people, trial
 from registry_tools.office.composing import NextDay
-from registry_tools.office.handed import CHANGES, DO, HandedIn, Part
+from registry_tools.office.intake import CHANGES, DO, HandedIn, Part
 from registry_tools.office.incoming import Forms, Given, Incoming
 from registry_tools.office.office import By, Office
 from registry_tools.office.waits import waits_of
@@ -142,7 +142,7 @@ def add(office: Office, here: Here, own: Incoming) -> Part:
     if own.kind == CHANGES:
         refuse_accounts(here, own)
         refuse_blocks(office, here, own)
-    part = handed.put(office, here.handed_in, own.kind, own.content, own.count, own.given.name, own.originals)
+    part = intake.put(office, here.handed_in, own.kind, own.content, own.count, own.given.name, own.originals)
     here.named.append((part, own.path))
     here.hidden += own.hidden
     return part
@@ -179,7 +179,7 @@ def refuse_instructions(office: Office, here: Here, own: Incoming) -> None:
     }
     for row in rows & {waits.instruction.row for waits in waits_of(office)}:
         there[row] = Before(f"one that waits for its due day, and comes by itself: {row}")
-    for item in here.handed_in.items(handed.FIRST, DO):
+    for item in here.handed_in.items(intake.FIRST, DO):
         row = item.rows[0]
         if row in rows:
             named = here.named_as(item.part)

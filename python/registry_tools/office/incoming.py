@@ -7,7 +7,7 @@ from dataclasses import dataclass, replace
 
 from registry_tools import voice
 from registry_tools.errors import FileFault, shown
-from registry_tools.office.handed import CHANGES, DO, MAPPING, TABLE, WORK, Original, begins_item
+from registry_tools.office.intake import CHANGES, DO, MAPPING, TABLE, WORK, Original, begins_item
 from registry_tools.second import faults
 from registry_tools.sheets import columns, importing, limits, sheets
 from registry_tools.sheets.mapping import Mapping

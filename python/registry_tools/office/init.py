@@ -6,8 +6,8 @@ from pathlib import Path
 
 from registry_tools import voice
 from registry_tools.errors import FileFault, WordsFault
-from registry_tools.office import approvals, handed, people
-from registry_tools.office.handed import FIRST, HandedIn
+from registry_tools.office import approvals, intake, people
+from registry_tools.office.intake import FIRST, HandedIn
 from registry_tools.layout import SETTINGS
 from registry_tools.office.office import By, Office
 from registry_tools.office.settings import Settings
@@ -70,7 +70,7 @@ def sync(path: Path) -> None:
 def put_first(office: Office, there: HandedIn, first: DayText, path: str) -> None:
     """Hands in a first text."""
     content = text_of_rows(first.source.rows)
-    handed.put(office, there, FIRST, content, len(first.instructions), os.path.basename(path))
+    intake.put(office, there, FIRST, content, len(first.instructions), os.path.basename(path))
 
 
 def change_first(office: Office, asked: Init, by: By) -> DayText:
@@ -84,7 +84,7 @@ def change_first(office: Office, asked: Init, by: By) -> DayText:
             raise WordsFault(f"{office.path} is there", f"change its {SETTINGS} with an editor")
         must_need_no_second(office, first)
         old = approvals.handed_in_of(office)
-        if any(True for _ in old.items(*(kind for kind in handed.KINDS if kind != FIRST))):
+        if any(True for _ in old.items(*(kind for kind in intake.KINDS if kind != FIRST))):
             raise WordsFault("take back first what was handed in", f"{voice.command('status')} shows it")
         put_first(office, old, first, asked.first)
     return first

@@ -6,8 +6,8 @@ from registry_tools import voice
 from registry_tools.errors import WordsFault, shown
 from registry_tools.notes import LOOK
 from registry_tools.office import approvals, composing
-from registry_tools.texts import labels
-from registry_tools.texts.labels import ACCOUNT, HOLDER, KINDS, USER, Label, Labels, as_looked_up
+from registry_tools.texts import namebook
+from registry_tools.texts.namebook import ACCOUNT, HOLDER, KINDS, USER, Label, Labels, as_looked_up
 from registry_tools.office.office import By, Office
 from registry_tools.store.events import LABELLED, now
 from registry_tools.texts.rows import rows_of_text
@@ -34,7 +34,7 @@ def keep_names(office: Office, by: By, asked: list[Label], why: str) -> Named:
         office.must_be_as_shown(by, named_so(new, before))
         rows = "".join(f"{own.row()}\n" for own in new).encode("utf-8", "surrogateescape")
         # (ends the command if the names could not be read again)
-        list(labels.rows_in(rows_of_text(office.store.path, rows.decode("utf-8", "surrogateescape"))))
+        list(namebook.rows_in(rows_of_text(office.store.path, rows.decode("utf-8", "surrogateescape"))))
         last = office.last()
         first = None if last else approvals.handed_in_of(office).first_text()
         date = last.date if last else first.head.date if first else None
@@ -53,7 +53,7 @@ def named_so(new: list[Label], before: Labels) -> list[str]:
 
 def one_name(kind: str, number: str, name: str, is_gone: bool = False) -> Label:
     """The name that words give. Raises WordsFault if it can't be one."""
-    own = Label(kind, number, labels.tidy(name))
+    own = Label(kind, number, namebook.tidy(name))
     found, expected = wrong_part(own, is_gone)
     if expected:
         where = voice.either("", "Its number: " if found == own.number else "Its name: ")
@@ -65,11 +65,11 @@ def wrong_part(label: Label, may_lack: bool) -> tuple[str, str]:
     """What is wrong with a name and what is expected; nothing, if all of it is right."""
     if label.kind not in KINDS:
         return label.kind, f"one of {', '.join(KINDS)}"
-    if not labels.NUMBER.fullmatch(label.number):
+    if not namebook.NUMBER.fullmatch(label.number):
         return label.number, "a number in plain digits, as a day text has it"
     if not label.name:
         return "", "" if may_lack else "a name"
-    return label.name, labels.wrong_name(label.name)
+    return label.name, namebook.wrong_name(label.name)
 
 
 # Keeping it.

@@ -14,8 +14,8 @@ from registry_tools.office.settings import Settings
 from registry_tools.store.events import APPROVED, ASKED, HANDED, LABELLED, OF_DAYS, TAKEN, Event, Events
 from registry_tools.store.file import Store
 from registry_tools.store.texts import sum_of
-from registry_tools.texts import labels
-from registry_tools.texts.labels import Labels
+from registry_tools.texts import namebook
+from registry_tools.texts.namebook import Labels
 from registry_tools.texts.rows import rows_of_text
 
 # What somebody is told who looked at the folder before somebody else changed it.
@@ -77,7 +77,7 @@ class Office:
     def names(self) -> Labels:
         """The names of users, holders and accounts: what commands have added, one after another."""
         text = self.text_of_names().decode("utf-8-sig", "surrogateescape")
-        return labels.that_count(rows_of_text(self.store.path, text))
+        return namebook.that_count(rows_of_text(self.store.path, text))
 
     def text_of_names(self) -> bytes:
         """All rows by which names were given or taken away."""

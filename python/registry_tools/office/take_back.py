@@ -6,8 +6,8 @@ from dataclasses import dataclass
 
 from registry_tools import voice
 from registry_tools.errors import WordsFault, shown
-from registry_tools.office import approvals, handed, people
-from registry_tools.office.handed import FIRST, HandedIn, Item, Part
+from registry_tools.office import approvals, intake, people
+from registry_tools.office.intake import FIRST, HandedIn, Item, Part
 from registry_tools.office.office import By, Office
 from registry_tools.store.events import TAKEN
 
@@ -38,7 +38,7 @@ def take_back(office: Office, by: By, asked: TakeBack) -> list[Item]:
 def chosen(handed_in: HandedIn, asked: TakeBack) -> list[Item]:
     """What is named."""
     parts = [*parts_of(handed_in, asked)]
-    there = {item.place: item for item in handed_in.items(*handed.KINDS)}
+    there = {item.place: item for item in handed_in.items(*intake.KINDS)}
     named = asked_places(handed_in, asked.places, there) if asked.places else [*there]
     first = [place for place in named if there[place].part.kind == FIRST]
     if first and asked.places:

@@ -11,7 +11,7 @@ from registry_tools.errors import FileFault
 from registry_tools.notes import LOOK
 from registry_tools.office import approvals, composing
 from registry_tools.office.composing import NextDay
-from registry_tools.texts.labels import Labels
+from registry_tools.texts.namebook import Labels
 from registry_tools.office.office import Office
 from registry_tools.second import rules
 from registry_tools.texts import checks, in_words

@@ -5,9 +5,9 @@ from dataclasses import dataclass
 
 from registry_tools import voice
 from registry_tools.errors import WordsFault
-from registry_tools.office import approvals, handed, trial
+from registry_tools.office import approvals, intake, trial
 from registry_tools.office.approvals import AskedFor
-from registry_tools.office.handed import HandedIn
+from registry_tools.office.intake import HandedIn
 from registry_tools.office.office import By, Office
 from registry_tools.office.waits import waits_of
 from registry_tools.store import daybook
@@ -49,7 +49,7 @@ def undo(office: Office, by: By, asked: Undo) -> Undone | AskedFor:
 
 def comes_again(office: Office) -> list[str]:
     """What is handed in and waits, in lines, behind a day that was taken back."""
-    items = approvals.handed_in_of(office).items(*handed.KINDS)
+    items = approvals.handed_in_of(office).items(*intake.KINDS)
     return [*(row for item in items for row in item.rows), *(own.instruction.row for own in waits_of(office))]
 
 
@@ -85,12 +85,12 @@ def date_again(office: Office, last: Event, meant: datetime.date | None) -> date
 def taken_back(office: Office, last: Event, again: datetime.date, why: str, approved: str) -> int:
     """Takes the last day back, in a change of the folder, and hands in again what it was made of, for this date or
     later, and what was handed in since. Answers the place behind what the day was made of."""
-    since, filed = approvals.handed_in_of(office), handed.for_a_day(office.store, last)
+    since, filed = approvals.handed_in_of(office), intake.for_a_day(office.store, last)
     office.add(UNDONE, of=last.id, date=last.date, first=last.first, next=last.next, why=why, approved=approved)
     daybook.remove_day(office.store.db, last.date)
     trial.forget(office)
     there = HandedIn(office.store)
-    handed.put_left(office, there, filed, filed.parts, again)
+    intake.put_left(office, there, filed, filed.parts, again)
     end = there.end
-    handed.put_left(office, there, since, since.parts)
+    intake.put_left(office, there, since, since.parts)
     return end

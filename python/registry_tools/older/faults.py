@@ -6,9 +6,9 @@ from pathlib import Path
 from registry_tools import voice
 from registry_tools.errors import FileFault
 from registry_tools.notes import counted
-from registry_tools.older import handed, journal
+from registry_tools.older import intake, journal
 from registry_tools.older.folder import PUT_BACK, Folder
-from registry_tools.older.handed import MERGED, HandedIn
+from registry_tools.older.intake import MERGED, HandedIn
 from registry_tools.older.journal import Event
 from registry_tools.questions.seams import Found, Given, close_again
 from registry_tools.store import events
@@ -115,5 +115,5 @@ def text_of(found: OlderFound, event: events.Event, column: str) -> KeptText:
 
 def waits_path(folder: Folder) -> Path:
     """The file of what waits behind the last day."""
-    return folder.next_folder / handed.WAITS
+    return folder.next_folder / intake.WAITS
 

@@ -17,9 +17,9 @@ from registry_tools import opening, voice
 from registry_tools.errors import FileFault, of_file
 from registry_tools.office import settings
 from registry_tools.office.settings import Settings
-from registry_tools.older import handed, journal, next_day
+from registry_tools.older import intake, journal, next_day
 from registry_tools.older.files import bytes_in, paths_in
-from registry_tools.older.handed import HandedIn, Source
+from registry_tools.older.intake import HandedIn, Source
 from registry_tools.older.journal import FILES, Event, Journal
 from registry_tools.opening import LinkFault
 from registry_tools.texts.rows import bytes_of, sum_of
@@ -68,7 +68,7 @@ class Folder:
 
     def handed_in(self, event: Event) -> HandedIn:
         """What was handed in for a settled day."""
-        return handed.read_journal(self.file(event, "handed"))
+        return intake.read_journal(self.file(event, "handed"))
 
     def for_the_next_day(self) -> HandedIn:
         """What was handed in for the next day."""
@@ -121,7 +121,7 @@ class Folder:
     def changed_tables(self, event: Event) -> Iterator[FileFault]:
         """The tables of a day that are not as they were handed in."""
         place = self.day_folder(event.date) / TABLES
-        yield from filter(None, (handed.changed_source(place / own.file, own) for own in self.sources_of(event)))
+        yield from filter(None, (intake.changed_source(place / own.file, own) for own in self.sources_of(event)))
 
     def labels(self) -> bytes:
         """The file of names; nothing, if it is not there."""

@@ -9,7 +9,7 @@ from registry_tools.errors import FileFault, shown
 from registry_tools.office import people
 from registry_tools.office.people import PROXY, People
 from registry_tools.older.files import bytes_in, owned, paths_in
-from registry_tools.older.handed import (
+from registry_tools.older.intake import (
     FILE, LOOKED, NAME, SOURCE, WAITS, Approval, Asked, HandedIn, Part, changed_source, items_in, read_journal,
 )  # fmt: skip
 from registry_tools.older.journal import Journal, csv_row

@@ -9,16 +9,16 @@ from pathlib import Path
 
 from registry_tools import opening
 from registry_tools.errors import FileFault, UnwrittenFault
-from registry_tools.office import approvals, handed as todays
-from registry_tools.texts.labels import that_count
+from registry_tools.office import approvals, intake as todays
+from registry_tools.texts.namebook import that_count
 from registry_tools.office.office import Office
 from registry_tools.office.waits import waits_text
-from registry_tools.older import faults, handed, index, journal
+from registry_tools.older import faults, intake, index, journal
 from registry_tools.older.faults import OlderFound
 from registry_tools.older.files import bytes_in
 from registry_tools.older import folder as places, next_day
 from registry_tools.older.folder import LABELS, TABLES, Folder
-from registry_tools.older.handed import FIRST, KINDS, HandedIn, Part
+from registry_tools.older.intake import FIRST, KINDS, HandedIn, Part
 from registry_tools.output import made_aside
 from registry_tools.progress import progress
 from registry_tools.questions.seams import Filed, compare_texts, look_at_day, past_day_of
@@ -220,7 +220,7 @@ class Making:
     def items(self, kind: str, place: Path, old: journal.Event | None) -> Iterator[list[str]]:
         """The things of a kind that a settled day has, one after another."""
         assert old is not None
-        return handed.items_in(kind, place / journal.FILES[kind], self.folder.text(old, kind))
+        return intake.items_in(kind, place / journal.FILES[kind], self.folder.text(old, kind))
 
     def text_of_part(
         self, there: HandedIn, part: Part, place: Path, rows: dict[str, Iterator[list[str]]], old: journal.Event | None

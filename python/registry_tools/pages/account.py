@@ -1,7 +1,7 @@
 """The pages of accounts: a statement for each holder, with nothing on it that belongs to others."""
 from typing import Iterator, Sequence
 
-from registry_tools.texts.labels import ACCOUNT
+from registry_tools.texts.namebook import ACCOUNT
 from registry_tools.pages.compliance import amount
 from registry_tools.notes import counted
 from registry_tools.pages.html import Cells, Markup, Table, facts, heading, paragraph

@@ -4,9 +4,9 @@ import re
 from typing import Collection
 
 from registry_tools import tables
-from registry_tools.office import handed
+from registry_tools.office import intake
 from registry_tools.pairs import edits
-from registry_tools.office.handed import Item
+from registry_tools.office.intake import Item
 from registry_tools.texts import in_words
 
 # What words of the texts are called, and what a change by hand does.
@@ -32,9 +32,9 @@ def called(word: str) -> str:
 def item_in_words(item: Item) -> str:
     """Something that was handed in."""
     fields = item.rows[0].split(",")
-    if item.part.kind in (handed.DO, handed.FIRST):
+    if item.part.kind in (intake.DO, intake.FIRST):
         return in_words.words_of(fields[4], fields[5:])
-    if item.part.kind == handed.WORK:
+    if item.part.kind == intake.WORK:
         return f"working day {fields[1]}"
     return change_in_words(item.rows)
 

@@ -3,7 +3,7 @@ from collections import Counter
 from typing import Iterator, Sequence
 
 from registry_tools.errors import WordsFault
-from registry_tools.texts.labels import ACCOUNT
+from registry_tools.texts.namebook import ACCOUNT
 from registry_tools.pages import index
 from registry_tools.pages.html import Cells, Markup, Table, link, paragraph, table, tag, words_in_cell
 from registry_tools.pages.rulebook import RULES

@@ -7,7 +7,7 @@ from dataclasses import dataclass
 
 from registry_tools.calendars.due_days import NOT_DUE
 from registry_tools.texts.sender import Sender
-from registry_tools.texts.labels import ACCOUNT
+from registry_tools.texts.namebook import ACCOUNT
 from registry_tools.pages.account import entry_parts, facts_of, refused_parts, standing_parts, waiting_parts
 from registry_tools.pages.html import (
     HEAD, PARTS, Cells, Markup, Table, facts, heading, items, joined, paragraph, style_of, tag,

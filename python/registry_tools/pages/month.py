@@ -8,7 +8,7 @@ from dataclasses import dataclass
 from registry_tools.calendars.deadlines import DueDates
 from registry_tools.errors import WordsFault
 from registry_tools.office.office import Office
-from registry_tools.texts.labels import Labels
+from registry_tools.texts.namebook import Labels
 from registry_tools.office.waits import waiting_behind
 from registry_tools.pages import letter
 from registry_tools.pages.account import chart

@@ -5,7 +5,7 @@ from typing import Any, Callable, Iterator
 
 from registry_tools.calendars.deadlines import DueDates
 from registry_tools.errors import WordsFault
-from registry_tools.texts.labels import Labels
+from registry_tools.texts.namebook import Labels
 from registry_tools.pages.compliance import bar
 from registry_tools.pages.html import Markup, Table, facts, heading, paragraph
 from registry_tools.pages.settled import count_of

@@ -12,7 +12,7 @@ from pathlib import Path
 
 from registry_tools.elsewhere import Elsewhere
 from registry_tools.errors import FileFault, WordsFault
-from registry_tools.texts.labels import Labels
+from registry_tools.texts.namebook import Labels
 from registry_tools.output import NewFolder, new_folder
 from registry_tools.pages.account import account_page
 from registry_tools.pages.compliance import account_list_pages, compliance_pages

@@ -7,7 +7,7 @@ from dataclasses import dataclass
 from registry_tools import voice
 from registry_tools.calendars.deadlines import DueDates
 from registry_tools.errors import WordsFault
-from registry_tools.texts.labels import Labels
+from registry_tools.texts.namebook import Labels
 from registry_tools.output import new_folder
 from registry_tools.pages.html import Frame
 from registry_tools.texts.sender import Sender

@@ -8,8 +8,8 @@ from typing import Any, Callable, Collection, Iterable, Iterator, Sequence, Type
 from registry_tools import voice
 from registry_tools.calendars.due_days import NOT_DUE, due_day_after, head_after
 from registry_tools.errors import shown
-from registry_tools.office.handed import Item
-from registry_tools.texts.labels import ACCOUNT, Labels
+from registry_tools.office.intake import Item
+from registry_tools.texts.namebook import ACCOUNT, Labels
 from registry_tools.pages import beside
 from registry_tools.pages.html import Cells, Frame, Markup, Table, joined, link, markup, paragraph, tag, words_in_cell
 from registry_tools.pages.rulebook import Rulebook

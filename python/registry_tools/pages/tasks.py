@@ -11,7 +11,7 @@ from registry_tools.pairs.compliance import standings
 from registry_tools.questions.due import OVERDUE, SURRENDER_FOR, Stand, deadlines
 from registry_tools.texts.day_text import DayText
 from registry_tools.texts.in_words import grouped
-from registry_tools.texts.labels import Labels
+from registry_tools.texts.namebook import Labels
 from registry_tools.texts.report import Report
 
 

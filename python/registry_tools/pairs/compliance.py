@@ -8,7 +8,7 @@ from dataclasses import dataclass
 from registry_tools import tables, voice
 from registry_tools.engine import confirm_figures
 from registry_tools.errors import WordsFault
-from registry_tools.texts.labels import Labels
+from registry_tools.texts.namebook import Labels
 from registry_tools.progress import progress
 from registry_tools.second import rules
 from registry_tools.showing import Cell

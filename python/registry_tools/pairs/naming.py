@@ -1,7 +1,7 @@
 """Names in what commands show: a folder of days has some, paths have none."""
 from collections.abc import Mapping, Sequence
 
-from registry_tools.texts.labels import ACCOUNT, HOLDER, USER, Labels
+from registry_tools.texts.namebook import ACCOUNT, HOLDER, USER, Labels
 from registry_tools.showing import Cell
 from registry_tools.texts.in_words import ACTS, OF_ACCOUNTS
 

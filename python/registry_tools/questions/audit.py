@@ -11,8 +11,8 @@ from pathlib import Path
 from registry_tools import voice
 from registry_tools.errors import FileFault, WordsFault, shown
 from registry_tools.notes import counted
-from registry_tools.office import anchors, approvals, handed, settings
-from registry_tools.pairs import settling
+from registry_tools.office import kept_heads, approvals, intake, settings
+from registry_tools.pairs import settlement
 from registry_tools.layout import SETTINGS
 from registry_tools.office.office import Office
 from registry_tools.progress import progress
@@ -73,10 +73,10 @@ def look_at_heads(found: Found, asked: Audit) -> None:
     if asked.since_date is not None and asked.since is None:
         raise WordsFault("--date tells the last day of --since HEAD, which is not there")
     if asked.since is not None:
-        faults.append(not_grown(found, anchors.head_of(asked.since), asked.since_date))
-    for line, anchor in anchors.read(asked.anchors) if asked.anchors is not None else ():
+        faults.append(not_grown(found, kept_heads.head_of(asked.since), asked.since_date))
+    for line, anchor in kept_heads.read(asked.anchors) if asked.anchors is not None else ():
         faults.append(not_grown(found, anchor.head, anchor.date))
-        wrong = anchors.wrong_signature(anchor, key) if key else ""
+        wrong = kept_heads.wrong_signature(anchor, key) if key else ""
         if wrong:
             found.add(FileFault(asked.anchors or "", line, "SIGNATURE", wrong, f"one by {key}"))
     found.add(*faults, mend=OTHER_FOLDER)
@@ -87,7 +87,7 @@ def look_at_heads(found: Found, asked: Audit) -> None:
 def not_grown(found: Found, head: str, date: datetime.date | None) -> FileFault | None:
     """What shows that a folder has not grown from a head, or that this can't be told; nothing, if it has."""
     with found.adding():
-        return anchors.not_grown(found.office.store, head, date)
+        return kept_heads.not_grown(found.office.store, head, date)
     return checks.unreadable(found.office.store.path, "no head can be looked for")
 
 
@@ -108,8 +108,8 @@ def look_at_handed(found: Found) -> None:
     for event in store.events.all:
         if event.what == HANDED:
             with found.adding(put_back()):
-                part = handed.part_by(store, event)
-                count = sum(1 for _ in handed.HandedIn(store, [part]).items_of(part))
+                part = intake.part_by(store, event)
+                count = sum(1 for _ in intake.HandedIn(store, [part]).items_of(part))
                 if count > event.count or (count < event.count and not is_upgraded(store)):
                     where = f"event {event.id}, count"
                     found.add(FileFault(store.path, 0, where, event.count, f"{count}: so many stand in it"))
@@ -175,7 +175,7 @@ def engines_told(there: Events, named: str) -> Iterator[str]:
         said = voice.either("settled by no proved engine, as far as the journal says", NO_ENGINE_NAMED)
         yield f"{said}: {len(days)}, last {days[-1].date}"
     rows = Counter(day.engine for day in there.days)
-    doubts = {doubt: count for row, count in rows.items() if (doubt := settling.doubt_of_sum(row, named))}
+    doubts = {doubt: count for row, count in rows.items() if (doubt := settlement.doubt_of_sum(row, named))}
     yield from (f"settled by {doubt}: {count}" for doubt, count in doubts.items())
 
 

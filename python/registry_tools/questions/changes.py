@@ -3,8 +3,8 @@ that are handed in for the next day last. Of paths, the rows that went and came 
 from collections.abc import Iterator, Sequence
 
 from registry_tools import tables
-from registry_tools.office import approvals, handed
-from registry_tools.office.handed import CHANGES, EDITS, HandedIn, Item
+from registry_tools.office import approvals, intake
+from registry_tools.office.intake import CHANGES, EDITS, HandedIn, Item
 from registry_tools.office.office import Office
 from registry_tools.showing import Cell
 from registry_tools.store.texts import Pair
@@ -30,7 +30,7 @@ def changes_of(office: Office) -> Iterator[list[Cell]]:
 def items_of(office: Office) -> Iterator[tuple[str, Item, str]]:
     """The same as they were handed in, each with its day, and the login that approved it."""
     for event in office.events.days:
-        filed = handed.for_a_day(office.store, event)
+        filed = intake.for_a_day(office.store, event)
         yield from ((str(event.date), item, approver_of(filed, item)) for item in filed.items(CHANGES, EDITS))
     handed_in = approvals.handed_in_of(office)
     yield from ((NEXT, item, approver_of(handed_in, item)) for item in handed_in.items(CHANGES, EDITS))

@@ -13,7 +13,7 @@ from registry_tools.errors import FileFault
 from registry_tools.notes import MOST_TOLD, counted
 from registry_tools.office import approvals, composing
 from registry_tools.office.office import Office
-from registry_tools.texts.labels import Labels
+from registry_tools.texts.namebook import Labels
 from registry_tools.pairs.next import about_date
 from registry_tools.office.waits import waits_of
 from registry_tools.pairs.compliance import NO_EMISSIONS, SETTLED, Standing, standings, years_over

@@ -11,8 +11,8 @@ from typing import NamedTuple
 from registry_tools import voice
 from registry_tools.errors import FileFault, UnwrittenFault, WordsFault, of_file, shown
 from registry_tools.notes import counted
-from registry_tools.office import composing, handed
-from registry_tools.pairs import settling
+from registry_tools.office import composing, intake
+from registry_tools.pairs import settlement
 from registry_tools.office.office import Office
 from registry_tools.office.program import named_program
 from registry_tools.office.waits import waits_text
@@ -65,7 +65,7 @@ class Found:
 
     def given(self, event: Event, _day: DayText) -> "Given":
         """What was handed in for a day."""
-        filed = handed.for_a_day(self.office.store, event)
+        filed = intake.for_a_day(self.office.store, event)
         if filed.first is None:
             return Given(None, filed.contents())
         rows = filed.rows(filed.first).rows
@@ -136,10 +136,10 @@ def look_at_day(found: Found, event: Event, before: Filed | None, by_program: bo
     if by_program:
         # (the pair was read: the next day is looked at behind it)
         with found.adding(mend):
-            settled = settling.by_engine(named_program(found.office), bytes_of(day.path), day.path)
+            settled = settlement.by_engine(named_program(found.office), bytes_of(day.path), day.path)
             compare_texts(found, report.path, text, settled, "the program", mend)
     if by_second:
-        compare_texts(found, report.path, text, settling.by_rules(day), "the second answer", mend)
+        compare_texts(found, report.path, text, settlement.by_rules(day), "the second answer", mend)
     return event, day, report
 
 
@@ -151,7 +151,7 @@ def look_at_seam(found: Found, event: Event, day: DayText, report: Report, befor
         return
     waiting = found.text_of(event, "waiting")
     if given.first_rows is not None:
-        new = given.contents[handed.DO].decode("utf-8", "surrogateescape").splitlines()
+        new = given.contents[intake.DO].decode("utf-8", "surrogateescape").splitlines()
         text = text_of_rows([*given.first_rows, *new, "end"])
         made = composing.NextDay(event.date, event.first, text, [], [], [])
     else:

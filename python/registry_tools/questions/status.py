@@ -10,8 +10,8 @@ from registry_tools.errors import FileFault
 from registry_tools.notes import LOOK, counted
 from registry_tools.office import approvals
 from registry_tools.pairs import naming
-from registry_tools.office.handed import KINDS, HandedIn, Item
-from registry_tools.texts.labels import Labels
+from registry_tools.office.intake import KINDS, HandedIn, Item
+from registry_tools.texts.namebook import Labels
 from registry_tools.office.office import Office
 from registry_tools.office.waits import waits_of
 from registry_tools.questions.due import missed_days, next_dates

@@ -14,8 +14,8 @@ from collections.abc import Iterator
 from dataclasses import dataclass
 
 from registry_tools.errors import WordsFault
-from registry_tools.office import handed
-from registry_tools.office.handed import HandedIn
+from registry_tools.office import intake
+from registry_tools.office.intake import HandedIn
 from registry_tools.office.office import Office
 from registry_tools.output import new_folder
 from registry_tools.progress import progress
@@ -53,7 +53,7 @@ def unpack(office: Office, folder: str, date: datetime.date | None = None) -> Un
             place = str(event.date) if counts else f"undone/{event.id:06}-{event.date}"
             made.write_all(place, files_of_day(office, event))
         if date is None:
-            made.write_all("next", files_of_next(handed.for_the_next_day(office.store)))
+            made.write_all("next", files_of_next(intake.for_the_next_day(office.store)))
             made.write("labels.csv", office.text_of_names())
             made.write("events.csv", as_csv(ALL, map(row_of, office.events.all)).encode("utf-8", "surrogateescape"))
         made.new.write(SUMS, "".join(f"{own}  {name}\n" for name, own in made.sums.items()))
@@ -82,7 +82,7 @@ class Made:
 
 def files_of_day(office: Office, event: Event) -> Iterator[tuple[str, bytes]]:
     """The files of a settled day, with their contents."""
-    texts, there = office.store.texts, handed.for_a_day(office.store, event)
+    texts, there = office.store.texts, intake.for_a_day(office.store, event)
     for column, name in FILES.items():
         own = getattr(event, column)
         if own:
@@ -98,7 +98,7 @@ def files_of_day(office: Office, event: Event) -> Iterator[tuple[str, bytes]]:
 def by_hand_rows(there: HandedIn) -> Iterator[tuple[str, ...]]:
     """Who changed what by hand for a day, and why: the rows of a change stand in one field."""
     seconds = {own.place: own.login for own in there.approved}
-    for item in there.items(handed.CHANGES, handed.EDITS):
+    for item in there.items(intake.CHANGES, intake.EDITS):
         part = item.part
         yield part.at, part.who, part.login, seconds.get(part.start, ""), part.name, "\n".join(item.rows)
 

@@ -21,7 +21,7 @@ from dataclasses import dataclass, field
 
 from registry_tools.errors import FileFault, must_be_known, of_file, shown
 from registry_tools.sheets.sheet import Stored
-from registry_tools.texts.labels import as_looked_up
+from registry_tools.texts.namebook import as_looked_up
 from registry_tools.texts.rows import packed_bytes_of
 
 COLUMNS, ALWAYS, FORM = "columns", "always", "form"

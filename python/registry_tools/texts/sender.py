@@ -10,7 +10,7 @@ from dataclasses import dataclass
 from pathlib import Path
 
 from registry_tools.errors import FileFault, must_be_known, shown
-from registry_tools.texts.labels import wrong_name
+from registry_tools.texts.namebook import wrong_name
 
 SECTION, NAMES = "sender", ("name", "mail")
 # An address of a message: of letters that no header gives another meaning. (RFC 5322 knows more, which nobody has.)

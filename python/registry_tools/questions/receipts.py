@@ -3,8 +3,8 @@ import datetime
 from collections.abc import Iterator
 from typing import NamedTuple
 
-from registry_tools.office import approvals, handed
-from registry_tools.office.handed import HandedIn, Item, Part, Taken
+from registry_tools.office import approvals, intake
+from registry_tools.office.intake import HandedIn, Item, Part, Taken
 from registry_tools.office.office import Office
 from registry_tools.questions.changes import NEXT
 from registry_tools.store.events import RELEASED, Event
@@ -32,7 +32,7 @@ def of(handed_in: HandedIn) -> Iterator[TakenBack]:
 def of_day(office: Office, date: datetime.date) -> Iterator[TakenBack]:
     """What was taken back before a settled day; nothing, if there is none of this date."""
     event = office.events.day_of(date)
-    return of(handed.for_a_day(office.store, event)) if event else iter(())
+    return of(intake.for_a_day(office.store, event)) if event else iter(())
 
 
 def of_all(office: Office) -> Iterator[tuple[str, TakenBack]]:
@@ -44,12 +44,12 @@ def of_all(office: Office) -> Iterator[tuple[str, TakenBack]]:
 
 def files_of(office: Office, event: Event) -> Iterator[tuple[str, str, str, str]]:
     """What was handed in for a settled day: the name, what is left of it, who did so, and when."""
-    filed = handed.for_a_day(office.store, event)
+    filed = intake.for_a_day(office.store, event)
     seconds = {own.place: own.login for own in filed.approved}
     for part in filed.parts:
         left, who = len(filed.left_of(part)), who_and_second(office, part.who, part.login, seconds.get(part.start, ""))
         of = "" if left == part.count else f" of {part.count}"
-        yield part.name, f"{handed.NAMES.get(part.kind, FIRST_TEXT)} {left}{of}", who, part.at
+        yield part.name, f"{intake.NAMES.get(part.kind, FIRST_TEXT)} {left}{of}", who, part.at
 
 
 def days_told(office: Office) -> Iterator[tuple[Event, str, str]]:
