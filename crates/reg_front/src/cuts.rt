@@ -10,15 +10,15 @@ const WINDOW: usize = 4 * 1024;
 
 const MOST_WINDOWS: u64 = 64;
 
-// A file is weighed at so many places, by the first row that begins in the next bytes there.
+// A file is weighed at so many places, by the rows that begin in the next bytes there.
 const STRETCHES: u64 = 64;
 
-const GLANCE: usize = 256;
+const GLANCE: usize = 1024;
 
-// How long a byte takes to read: one of a surrender or a deletion, and one of any other row. They were measured.
-const LIGHT: u64 = 3;
+// How long a row takes to read: an instruction, and any other row, whatever it says. They were measured.
+const INSTRUCTION: u64 = 4;
 
-const HEAVY: u64 = 5;
+const OTHER: u64 = 3;
 
 // The offset of the first row behind this one with which a piece may begin, if it is near.
 fn find_cut<F: ReadAt>(file: &F, offset: u64) -> Option<u64> {
@@ -38,31 +38,41 @@ fn find_row_near<F: ReadAt>(file: &F, offset: u64) -> Option<usize> {
     find_row(&window[..count])
 }
 
-// Whether the first row that begins in a part of a text is a surrender or a deletion.
-fn is_light(part: &[u8]) -> bool {
+// How long the rows that begin behind the first byte of a part of a text take to read.
+fn weight_of(part: &[u8]) -> u64 {
     let mut rows = part.split(|byte| *byte == b'\n');
     let _ = rows.next();
-    match rows.next() {
-        Some(row) => row.starts_with(b"retired,"),
-        None => false,
+    let mut weight: u64 = 0;
+    for row in rows {
+        let own = if row.starts_with(b"do,") {
+            INSTRUCTION
+        } else {
+            OTHER
+        };
+        weight = weight.saturating_add(own);
     }
+    weight
 }
 
-// How long a byte behind an offset takes to read.
-fn weight_at<F: ReadAt>(file: &F, offset: u64) -> u64 {
+// How long so many bytes behind an offset take to read, if the rows of all are as the first ones.
+fn weight_at<F: ReadAt>(file: &F, offset: u64, size: u64) -> u64 {
     let mut room = [0; GLANCE];
     match file.read_at(offset, &mut room) {
-        Some(count) if is_light(&room[..count]) => LIGHT,
-        _ => HEAVY,
+        Some(count) => weight_of(&room[..count]).saturating_mul(size) / (count as u64).max(1),
+        None => 0,
     }
 }
 
-// The weight of a byte in each stretch of so many bytes of a file, and of all stretches together.
+// The weight of each stretch of so many bytes of a file, and of all stretches together.
 fn weigh<F: ReadAt>(alloc: Global, file: &F, from: u64, size: u64) -> Option<(Vec<u64>, u64)> {
     let mut weights = Vec::new(alloc);
     let mut all: u64 = 0;
     for stretch in 0..STRETCHES {
-        let weight = weight_at(file, from.saturating_add(size.saturating_mul(stretch)));
+        let weight = weight_at(
+            file,
+            from.saturating_add(size.saturating_mul(stretch)),
+            size,
+        );
         all = all.saturating_add(weight);
         weights.push(weight).ok()?;
     }
