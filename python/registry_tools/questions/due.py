@@ -74,17 +74,17 @@ def due_until(office: Office, until: datetime.date) -> list[Due]:
     return with_calendar(office, until, of_days(office, *composing.last_pair(office)))
 
 
-def with_calendar(office: Office, until: datetime.date, known: list[Due]) -> list[Due]:
+def with_calendar(office: Office, until: datetime.date, day_dues: list[Due]) -> list[Due]:
     """The same, of what `of_days` tells and of the calendar."""
-    every = (own for found in (known, of_calendar(office)) for own in found if own.date <= until)
-    return sorted(every, key=lambda own: (own.date, own.what, own.account or 0))
+    every = (due for found in (day_dues, of_calendar(office)) for due in found if due.date <= until)
+    return sorted(every, key=lambda due: (due.date, due.what, due.account or 0))
 
 
 def of_days(office: Office, day: DayText, report: Report) -> list[Due]:
     """What is due whatever is handed in: it is told by the last day, its report, what waits and the deadlines."""
     names = office.names()
-    known = deadlines(office.settings.due, day, report, names), of_rows(day, report, names), waiting(office, names)
-    return [own for found in known for own in found]
+    lists = deadlines(office.settings.due, day, report, names), of_rows(day, report, names), waiting(office, names)
+    return [due for found in lists for due in found]
 
 
 def deadlines(

@@ -68,8 +68,8 @@ class Store:
 
     def kept(self, event: Event, column: str) -> KeptText:
         """A text that an event has in a column, by the name under which faults tell it."""
-        own = getattr(event, column)
-        return KeptText(voice.path(f"{self.path}/{event.date}/{FILES[column]}"), lambda: self.texts.get(own))
+        text_sum = getattr(event, column)
+        return KeptText(voice.path(f"{self.path}/{event.date}/{FILES[column]}"), lambda: self.texts.get(text_sum))
 
     def pair_of(self, event: Event) -> Pair:
         """The pair of a day that an event filed."""
@@ -288,8 +288,8 @@ def must_be_tables(db: sqlite3.Connection, path: Path) -> None:
 
 def schema() -> str:
     """The statements that make all tables. A file has them without their comments: so each letter of it counts."""
-    own = Path(__file__)
-    text = "".join(own.with_name(name).read_text(encoding="utf-8") for name in ("schema.sql", "daybook.sql"))
+    here = Path(__file__)
+    text = "".join(here.with_name(name).read_text(encoding="utf-8") for name in ("schema.sql", "daybook.sql"))
     return re.sub(r"\n?[ \t]*--[^\n]*", "", text)
 
 
@@ -311,8 +311,8 @@ def making(path: Path) -> Iterator[Store]:
             db.close()
 
 
-def has_changed(folder: Path, there: Events) -> bool:
+def has_changed(folder: Path, seen: Events) -> bool:
     """Whether a command has added events since they were read."""
     with contextlib.suppress(sqlite3.Error), contextlib.closing(connected(folder / NAME)) as db:
-        return last_line(db) != there.last_line
+        return last_line(db) != seen.last_line
     return False
