@@ -2,7 +2,7 @@
 --help` tells the columns and the verdicts."""
 import bisect
 import operator
-from collections.abc import Iterable, Iterator, Sequence
+from collections.abc import Callable, Iterable, Iterator, Sequence
 from dataclasses import dataclass
 
 from registry_tools import tables, voice
@@ -61,6 +61,10 @@ class Standing:
         if self.verdict == NO_EMISSIONS:
             return f"{NO_EMISSIONS}: {' '.join(map(str, self.years_without_emissions))}"
         return self.verdict
+
+
+# What tells how operators stand for a year.
+Stand = Callable[[DayText, Report, int], Iterable[Standing]]
 
 
 def last_year_over(head: rules.Day) -> int:
