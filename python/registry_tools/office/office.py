@@ -2,7 +2,7 @@
 import contextlib
 import re
 from collections.abc import Iterable, Iterator
-from dataclasses import dataclass
+from dataclasses import dataclass, field
 from pathlib import Path
 from typing import Any
 
@@ -56,7 +56,7 @@ class Office:
     who: str = ""
     late: str = CAME_LATE
     # The last day with its report, by the line of its event, if somebody has read it before: nobody changes either.
-    known: tuple[str, DayText, Report] | None = None
+    known: tuple[str, DayText, Report] | None = field(default=None, init=False)
 
     @property
     def events(self) -> Events:
