@@ -5,11 +5,11 @@ import os
 import re
 import shutil
 import sys
-from collections.abc import Sequence
+from collections.abc import Iterator, Sequence
 from pathlib import Path
 
 from by_pip import TOLD
-from harness import TOP, LeftOut, Word, answer_of, differs
+from harness import TOP, LeftOut, Trial, Word, answer_of, differs
 from lived_weeks import WEEK, Somebody, week_fault
 from standins import VERSION
 
@@ -64,11 +64,26 @@ wait $desk
 """
 
 
-def debian_fault(made: Path, room: Path) -> object:
-    """What is wrong with the packages: their names and scripts, what lintian says, and a day that is lived in them."""
+def packages_in(made: Path) -> list[Path]:
+    """The packages that were made."""
     packages = sorted(made.glob("*.deb"))
     if not packages:
         raise LeftOut("dpkg-deb or a C compiler is not here, so no package was made")
+    return packages
+
+
+def trials(made: Path, room: Path) -> Iterator[tuple[str, Trial]]:
+    """All that is tried of packages."""
+    yield "packages of Debian", lambda: debian_fault(packages_in(made), room / "debian")
+    yield "the service of packages", lambda: service_fault(room / "debian/root")
+    yield "the page of a desk, followed from packages on", lambda: packages_in(made) and followed_fault(
+        made, room / "followed"
+    )
+    yield "packages by lintian", lambda: lintian_fault(packages_in(made))
+
+
+def debian_fault(packages: Sequence[Path], room: Path) -> object:
+    """What is wrong with the packages: their names and scripts, and a day that is lived in them."""
     names = [path.name.partition("_")[0] for path in packages]
     if names != ["libregistry-dev", "libregistry1", "python3-registry", DESK, "registry"]:
         return f"these are the packages: {names}"
@@ -81,17 +96,18 @@ def debian_fault(made: Path, room: Path) -> object:
         if scripts != wanted or answer_of(["dpkg-deb", "-x", path, root])[2]:
             return f"{path.name}: {scripts}"
     wrong = week_fault(root / "usr/bin/registry-day", Somebody(room / "somebody"), "program")
-    wrong = wrong or calls_fault(root) or service_fault(root) or cleaning_fault(packages, root, room)
-    return wrong or followed_fault(made, room / "followed") or lintian_fault(packages)
+    return wrong or calls_fault(root) or cleaning_fault(packages, root, room)
 
 
 def service_fault(root: Path) -> object:
-    """What is wrong with the service of a desk: it is that of the page, and may do little."""
+    """What is wrong with the service of a desk, unpacked: it is that of the page, and may do little."""
     unit, program = root / SERVICE, shutil.which("systemd-analyze")
+    if not unit.exists():
+        raise LeftOut("no package was unpacked here")
     if unit.read_bytes() != (PAGE.parent / "registry-desk.service").read_bytes():
         return "the package has another service than the page"
     if not program:
-        return None
+        raise LeftOut("systemd-analyze is not here")
     said = answer_of([program, "security", "--offline=true", "--no-pager", "--threshold=10", unit])
     counted = re.findall(r"exposure level[^:]*: ([0-9.]+)", said[0].decode())
     told = re.findall("counts ([0-9.]+)", PAGE.read_text())
@@ -101,13 +117,15 @@ def service_fault(root: Path) -> object:
 def followed_fault(made: Path, room: Path) -> object:
     """What is wrong with the page of a desk, if somebody follows it from the packages to the second pair of eyes; where
     a root of their own can be had."""
-    has_all = all(map(shutil.which, NEEDED))
-    needed = answer_of(["/usr/bin/python3", "-I", "-c", "import flask, gunicorn"])[2] == 0
-    if os.getuid() != 0 or not has_all or not needed:
-        return None
+    lacking = [name for name in NEEDED if not shutil.which(name)]
+    if os.getuid() != 0 or lacking:
+        raise LeftOut(f"no root of its own can be had here: that takes root and {', '.join(lacking or NEEDED)}")
+    if answer_of(["/usr/bin/python3", "-I", "-c", "import flask, gunicorn"])[2]:
+        raise LeftOut("the Python of the system has no Flask or no gunicorn")
     room.mkdir()
-    if answer_of(["unshare", "-m", "sh", "-c", OVERLAY, "sh", room])[2]:
-        return None
+    said = answer_of(["unshare", "-m", "sh", "-c", OVERLAY, "sh", room])
+    if said[2]:
+        raise LeftOut(f"no root of its own can be had here: {said[1].decode().strip()[-200:]}")
     blocks = re.findall(r"```\n(.*?)```", PAGE.read_text(), re.DOTALL)
     lines = blocks[0].splitlines()
     if not lines[0].startswith("apt install ") or not blocks[1].startswith("[people]"):
@@ -162,7 +180,7 @@ def calls_fault(root: Path) -> object:
 
 def lintian_fault(packages: Sequence[Path]) -> object:
     if not shutil.which("lintian"):
-        return None
+        raise LeftOut("lintian is not here")
     root = ["--allow-root"] if os.getuid() == 0 else []
     said = answer_of(["lintian", *root, "--fail-on", "warning", *packages])
     # (what it says of less than a warning is of the stand-ins: a script, and a library built without Debian's flags)

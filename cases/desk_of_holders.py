@@ -16,7 +16,9 @@ from second_login import with_lines
 
 from registry_tools.desk import app, own
 from registry_tools.holders import asking
+from registry_tools.holders.own import NotTaken, Own
 from registry_tools.office import approvals, folder
+from registry_tools.office.office import By
 from registry_tools.office.people import system_login
 
 WEEK, RULES = TOP / "examples" / "week", TOP / "tools" / "rules.py"
@@ -356,7 +358,11 @@ def asking_trials(work: Path) -> Iterator[Told]:
     yield "who it names does", None if post(hugo, "/approve", {"key": key}).status == 303 else "not"
     yield "nothing waits", differs(waiting(office), [])
     yield "once more", None if post(hugo, "/approve", {"key": key}).status == 400 else "it was"
+    with folder.at(office) as there:
+        before = own.own_of(desk.served, there.people.named["hanna"])
     must_do_either(["close", "--date", TUESDAY, "--second", "--yes", "--for", "anna", "--office", str(office)])
+    late = before, f"do,{WEDNESDAY},5101,,surrender,100210,general,9\nend\n".encode()
+    yield "who looked before another day was settled", asked_late(office, *late)
     yield "nobody chooses the day or another user", None if ROW in text_of(office, TUESDAY).decode() else "they do"
     yield "and done", has(hanna.get("/accounts/100210"), "Surrender")
     yield from waiting_trials(office, hanna, hugo, anna)
@@ -402,6 +408,17 @@ def four_eyes_trials(work: Path) -> Iterator[Told]:
     said = Said("approve", place, "--for", "bert", "--office", office)
     yield "the office approves it", None if said.status == 0 and not waiting(office) else said
     shutil.rmtree(office)
+
+
+def asked_late(office: Path, before: Own, row: bytes) -> object:
+    """What becomes of a row that somebody asks for who knows the accounts of an earlier day."""
+    with folder.at(office) as there:
+        by = By(f"{system_login()}:hanna", "hanna")
+        try:
+            asking.ask(there, by, before, row, False)
+            return "it was taken"
+        except NotTaken as why:
+            return None if "look once more" in str(why) else why
 
 
 def rows_handed(office: Path) -> Iterator[tuple[str, str, str]]:

@@ -87,16 +87,13 @@ class Giver:
 
     def sends(self, *contents: bytes, how: str = "whole") -> list[list[list[str]]]:
         """What comes back of some bytes, each by a connection of their own, some at a time."""
-        line = [sys.executable, "-I", "-c", SAY, str(PYTHON), f"{self.path}.day", how]
+        line = self.login.line(sys.executable, "-I", "-c", SAY, PYTHON, f"{self.path}.day", how)
         said = subprocess.run(
-            self.as_login(line), input=json.dumps([content.decode("latin-1") for content in contents]).encode(),
+            line, input=json.dumps([content.decode("latin-1") for content in contents]).encode(),
             capture_output=True, timeout=MOST_SECONDS, check=True, cwd="/",
         )  # fmt: skip
         answer: list[list[list[str]]] = json.loads(said.stdout)
         return answer
-
-    def as_login(self, line: Sequence[str]) -> list[str]:
-        return ["setpriv", f"--reuid={self.login.user}", f"--regid={self.login.group}", "--clear-groups", *line]
 
     def tries(self, asked: Sequence[tuple[str, bytes, str]], how: str = "whole") -> Told:
         """What is wrong, if what comes back of some bytes does not tell something."""
@@ -232,7 +229,7 @@ def many_of_one_trials(path: Path, anna: Login, bert: Login) -> Told:
     """Whoever begins many commands, and says nothing, holds up nobody else."""
     own, other = Giver(anna, path), Giver(bert, path)
     line = [sys.executable, "-I", "-c", HOLD, f"{path}.day", str(MOST_AT_ONCE)]
-    with subprocess.Popen(own.as_login(line), stdin=subprocess.PIPE, stdout=subprocess.PIPE) as holds:
+    with subprocess.Popen(own.login.line(*line), stdin=subprocess.PIPE, stdout=subprocess.PIPE) as holds:
         assert holds.stdout is not None
         holds.stdout.readline()
         yield "too many commands of one login", has(own.gives("status"), "(2, ", "of this login are at work")
@@ -323,7 +320,8 @@ def interrupted_trials(path: Path, home: Path, owner: Login, anna: Login) -> Tol
     words = [str(TOP / "day"), "--desk", str(path), "close", "--date", "2025-09-23", "--yes"]
     before = own.gives("status")
     for what, number, wanted in (("Ctrl-C", signal.SIGINT, 130), ("a kill", signal.SIGKILL, -9)):
-        with subprocess.Popen(own.as_login(words), cwd="/", stdout=subprocess.PIPE, stderr=subprocess.PIPE) as process:
+        line = own.login.line(*words)
+        with subprocess.Popen(line, cwd="/", stdout=subprocess.PIPE, stderr=subprocess.PIPE) as process:
             wait_for(begun)
             begun.unlink()
             process.send_signal(number)
@@ -418,7 +416,7 @@ def answered_by(path: Path, server: Login, login: Login, *words: str) -> tuple[i
     code = f"import socket, sys; own = socket.socket(socket.AF_UNIX); own.bind({str(there)!r}); own.listen()"
     code += f"; import os; os.chmod({str(there)!r}, 0o666); print('x', flush=True); sys.stdin.read()"
     line = [sys.executable, "-I", "-c", code]
-    with subprocess.Popen(Giver(server, path).as_login(line), stdin=subprocess.PIPE, stdout=subprocess.PIPE) as listens:
+    with subprocess.Popen(server.line(*line), stdin=subprocess.PIPE, stdout=subprocess.PIPE) as listens:
         assert listens.stdout is not None
         listens.stdout.readline()
         said = login.day(*words)

@@ -7,12 +7,10 @@ import os
 import re
 import signal
 import socket
-import sqlite3
 import subprocess
 import sys
 import threading
 import time
-import zlib
 from collections.abc import Callable, Iterator, Mapping, Sequence
 from email.message import Message
 from http.client import HTTPMessage
@@ -21,7 +19,10 @@ from typing import Any
 
 import door_commands
 import door_holders
+import door_links
 import door_machines
+import door_many
+import door_rights
 import door_week
 import logins
 import real_servers
@@ -80,9 +81,8 @@ class Visitor:
             own.append(("Cookie", "; ".join(f"{name}={word}" for name, word in self.cookies.items())))
         told = json.dumps([str(self.path), method, where, own, body.decode("latin-1")])
         said = subprocess.run(
-            ["setpriv", f"--reuid={self.login.user}", f"--regid={self.login.group}", "--clear-groups",
-             sys.executable, "-I", "-c", ASK], input=told, capture_output=True, text=True, timeout=MOST_SECONDS,
-            check=False, cwd="/",
+            self.login.line(sys.executable, "-I", "-c", ASK), input=told, capture_output=True, text=True,
+            timeout=MOST_SECONDS, check=False, cwd="/",
         )  # fmt: skip
         if said.returncode:
             return Answer(0, message([]), said.stderr)
@@ -99,9 +99,9 @@ class Visitor:
         own = [*lines, *(f"{name}: {word}" for name, word in self.headers.items())]
         own.append("Cookie: " + "; ".join(f"{name}={word}" for name, word in self.cookies.items()))
         said = subprocess.run(
-            ["setpriv", f"--reuid={self.login.user}", f"--regid={self.login.group}", "--clear-groups", sys.executable,
-             "-I", "-c", SAY, self.path], input="\r\n".join([*own, "", ""]).encode("latin-1") + body,
-            capture_output=True, timeout=MOST_SECONDS, check=True, cwd="/",
+            self.login.line(sys.executable, "-I", "-c", SAY, self.path),
+            input="\r\n".join([*own, "", ""]).encode("latin-1") + body, capture_output=True, timeout=MOST_SECONDS,
+            check=True, cwd="/",
         )  # fmt: skip
         return int(said.stdout.split()[1])
 
@@ -168,8 +168,8 @@ class Holding:
         code = f"import socket, sys, time; own = socket.socket(socket.AF_UNIX); own.connect({str(path)!r})"
         code += "; own.send(b'GET / HT'); print('x', flush=True); sys.stdin.read()"
         self.process = subprocess.Popen(
-            ["setpriv", f"--reuid={login.user}", f"--regid={login.group}", "--clear-groups", sys.executable, "-I", "-c",
-             code], stdin=subprocess.PIPE, stdout=subprocess.PIPE, stderr=subprocess.DEVNULL,
+            login.line(sys.executable, "-I", "-c", code), stdin=subprocess.PIPE, stdout=subprocess.PIPE,
+            stderr=subprocess.DEVNULL,
         )  # fmt: skip
         assert self.process.stdout is not None
         self.process.stdout.readline()
@@ -186,7 +186,7 @@ class SocketDesk:
         line = [TOP / "day", "desk", "--office", office, "--socket", path, *words]
         with log.open("wb") as errors:
             self.process = subprocess.Popen(
-                ["setpriv", f"--reuid={owner.user}", f"--regid={owner.group}", "--clear-groups", *map(str, line)],
+                owner.line(*line),
                 # (what this says to gunicorn is of no moment)
                 cwd="/", env={**os.environ, "SCRIPT_NAME": "/elsewhere"}, stdin=subprocess.DEVNULL,
                 stdout=subprocess.PIPE, stderr=errors, text=True,
@@ -242,23 +242,25 @@ def link_trials(mock: Any) -> Told:
 
 
 def all_trials(work: Path, leave_out: Callable[[str, LeftOut], None], many: int) -> Told:
-    """All that is tried by several logins. `leave_out` hears what can't be tried; `many` rows hands in each of ten who
+    """All that is tried by several logins. `leave_out` hears what can't be tried; so many things each of ten asks who
     do so at once."""
-    with logins.made("desk", "anna", "bert", "look", "www", "nobody", "hold") as made:
-        *people, holder = made
-        owner, anna, bert, looks, proxy, stranger = people
+    names = "desk", "anna", "bert", "look", "www", "nobody", "hold", "hands"
+    with logins.made(*names, *door_many.PEOPLE) as (owner, anna, bert, looks, proxy, stranger, holder, hands, *ten):
+        people = owner, anna, bert, looks, proxy, stranger
         home, place = work / "home", work / "place"
         for own in (home, place):
             own.mkdir()
             os.chown(own, owner.user, owner.group)
             own.chmod(0o755)
         office, path = home / "office", place / "desk.sock"
-        yield from begin_trials(owner, people_of(owner, anna, bert, looks, proxy, holder), office, place)
+        named = people_of(owner, anna, bert, looks, proxy, holder, hands)
+        yield from begin_trials(owner, named, office, place)
         desk = SocketDesk(owner, office, path, work / "log")
         try:
             yield from stranger_trials(path, anna, stranger, looks)
             yield from link_of_others_trials(path, anna, bert)
             yield from right_trials(path, office, anna, looks)
+            yield from door_rights.all_trials(path, home, work, (hands, anna), lambda own: Visitor(own, path), desk)
             yield from proxy_trials(path, office, anna, bert, proxy, stranger)
             yield from odd_trials(path, anna, bert, proxy, desk)
             yield from in_its_place_trials(anna, work)
@@ -269,6 +271,7 @@ def all_trials(work: Path, leave_out: Callable[[str, LeftOut], None], many: int)
                 return [Visitor(anna, path).came_in(), named_by(proxy, path, anna)]
 
             yield from door_commands.all_trials(work, path, people, desk, browsers)
+            yield from door_links.all_trials(work, path, home, (owner, anna, stranger))
             at_links = Path(f"{path}.link")
             programs = [Visitor(login, at_links) for login in (anna, looks, proxy, stranger)]
             programs[2].headers = {HEADER: anna.name}
@@ -285,7 +288,6 @@ def all_trials(work: Path, leave_out: Callable[[str, LeftOut], None], many: int)
                 except LeftOut as why:
                     leave_out(f"a desk behind {what}", why)
             yield from end_trials(path, office, anna, bert, desk)
-            yield from many_trials(path, office, [anna, bert], desk, many)
         finally:
             status = desk.end()
         yield "Ctrl-C ends it", differs(status, 0)
@@ -296,6 +298,24 @@ def all_trials(work: Path, leave_out: Callable[[str, LeftOut], None], many: int)
         yield "audit of the folder", None if ": 0 differences" in said else (status, said)
         yield "no key or cookie in the log", [word for word in Visitor.secrets if word in desk.said()]
         yield from lived_trials(work, owner, anna)
+        yield from ten_trials(work, owner, ten, many)
+
+
+def ten_trials(work: Path, owner: Login, ten: Sequence[Login], many: int) -> Told:
+    """Ten people at a desk of their own."""
+    office, path = work / "home" / "ten", work / "place" / "ten.sock"
+    monday = ["close", "--date", "2025-09-22", "--second", "--yes", "--office", office]
+    for words in (["init", office, WEEK / "monday.csv"], monday):
+        status, said = owner.day(*words, LOGNAME=owner.name)
+        assert status in (0, 1), said
+    settings_of(office, {owner.name: "The desk: proxy", **{own.name: "Somebody: all" for own in ten}})
+    desk = SocketDesk(owner, office, path, work / "ten.log")
+    try:
+        yield from door_many.many_trials(path, office, ten, desk, many)
+    finally:
+        desk.end()
+    status, said = owner.day("audit", "--second", "--office", office)
+    yield "audit of what ten people did", None if ": 0 differences" in said else (status, said)
 
 
 def lived_trials(work: Path, owner: Login, anna: Login) -> Told:
@@ -334,10 +354,10 @@ def settings_of(office: Path, people: dict[str, str], waits: str = "change") -> 
 
 
 def people_of(*people: Login) -> dict[str, str]:
-    owner, anna, bert, looks, proxy, holder = people
+    owner, anna, bert, looks, proxy, holder, hands = people
     return {
         owner.name: "The desk: proxy", anna.name: "Anna Berg: all", bert.name: "Bert Kohl: all",
-        looks.name: "Gerd Pohl: look", proxy.name: "The web server: proxy",
+        looks.name: "Gerd Pohl: look", proxy.name: "The web server: proxy", hands.name: "Ida Voss: hand in",
         holder.name: "Hanna Holt: holder 5501, user 5101",
     }  # fmt: skip
 
@@ -430,23 +450,17 @@ def link_of_others_trials(path: Path, anna: Login, bert: Login) -> Told:
     yield "a form of no length", told.wrong(400, 403, 411)
 
 
-def events_of(office: Path) -> list[tuple[str, str, str]]:
-    """What each event is, its login and its name."""
-    with contextlib.closing(sqlite3.connect(f"file:{office}/registry.sqlite?mode=ro", uri=True)) as db:
-        return [*db.execute("SELECT what, login, who FROM events ORDER BY id")]
-
-
 def right_trials(path: Path, office: Path, anna: Login, looks: Login) -> Told:
     """Each does what office.ini says, and the folder keeps who it was."""
     own, gerd = Visitor(anna, path).came_in(), Visitor(looks, path).came_in()
     looked = own.send("/hand-in", "/hand-in/look", [("a.csv", ROW.format(1).encode())])
     told = own.yes(looked, "/hand-in/take")
     yield "who may hand in", None if "handed in: a.csv" in told.text else told.text[-900:]
-    what, login, who = events_of(office)[-1]
+    what, login, who = door_many.events_of(office)[-1]
     yield "the folder keeps who", differs((what, login.partition(":")[2], who), ("handed", anna.name, anna.name))
     told = own.yes(own.send("/hand-in", "/hand-in/look", [("b.csv", ROW.format(2).encode())]), "/hand-in/take", who="x")
-    yield "a name that was typed is nobody", differs(events_of(office)[-1][2], anna.name)
-    before = events_of(office)
+    yield "a name that was typed is nobody", differs(door_many.events_of(office)[-1][2], anna.name)
+    before = door_many.events_of(office)
     for page in ("/", "/accounts", "/days/2025-09-22", "/find?refused=1", "/journal"):
         yield f"who may look, {page}", gerd.get(page).wrong(200)
     told = gerd.send("/hand-in", "/hand-in/look", [("c.csv", ROW.format(3).encode())])
@@ -463,7 +477,7 @@ def right_trials(path: Path, office: Path, anna: Login, looks: Login) -> Told:
         answer = gerd.post(action, said)
         told = gerd.job(answer) if answer.status == 303 else answer
         yield f"{action} of who may only look", None if "Nothing was done" in told.text or told.status == 400 else told
-    yield "nothing was done", differs(events_of(office), before)
+    yield "nothing was done", differs(door_many.events_of(office), before)
 
 
 def proxy_trials(path: Path, office: Path, anna: Login, bert: Login, proxy: Login, stranger: Login) -> Told:
@@ -492,7 +506,7 @@ def proxy_trials(path: Path, office: Path, anna: Login, bert: Login, proxy: Logi
     own.headers = {HEADER: anna.name}
     yield "a form under the same name", own.post("/names/look", said).wrong(303)
     told = own.yes(own.send("/hand-in", "/hand-in/look", [("d.csv", ROW.format(4).encode())]), "/hand-in/take")
-    what, login, who = events_of(office)[-1]
+    what, login, who = door_many.events_of(office)[-1]
     wanted = ("handed", f"{proxy.name}:{anna.name}", anna.name)
     yield "the folder keeps both", differs((what, login.partition(":")[2], who), wanted) and told.text[-900:]
     at_links = Visitor(proxy, Path(f"{path}.link"), **{HEADER: anna.name})
@@ -600,83 +614,3 @@ def end_trials(path: Path, office: Path, anna: Login, bert: Login, desk: SocketD
         "the link of another login", f"{anna.name} was given a link", f"{anna.name} ended their links",
     ):  # fmt: skip
         yield f"the log says: {words[:30]}", None if words in said else said[-1500:]
-
-
-# Several at once.
-
-# From which amount on each of them hands in: each has others.
-FIRST = 1_000
-# What a person hands in by words or as a program, one after another, each until it is told as handed in, run as this
-# login: a kill of the server is no answer.
-HAND_IN = """
-import contextlib, http.client, io, json, os, socket, sys, time
-sys.path.insert(0, sys.argv[1])
-from registry_tools import main, streams
-path, way, begin, count = sys.argv[2], sys.argv[3], int(sys.argv[4]), int(sys.argv[5])
-row = 'do,2025-09-23,5101,5102,transfer,100210,300118,general,{}\\n'
-def by_words(text):
-    said = io.StringIO()
-    sys.stdin = io.TextIOWrapper(io.BytesIO(text.encode()))
-    from registry_tools.texts import rows
-    rows.read_once.cache_clear()
-    with contextlib.redirect_stdout(said), contextlib.redirect_stderr(said):
-        main.main(['--desk', path, 'hand-in', '-'])
-    return said.getvalue()
-def by_program(text):
-    own = http.client.HTTPConnection('localhost', timeout=600)
-    own.sock = socket.socket(socket.AF_UNIX)
-    own.sock.settimeout(600)
-    own.sock.connect(path + '.link')
-    sent = json.dumps({'files': [{'name': 'many.csv', 'text': text}]})
-    own.request('POST', '/hand-in.json', sent, {'Content-Type': 'application/json'})
-    return json.dumps(json.load(own.getresponse()))
-until = time.monotonic() + 2400
-for amount in range(begin, begin + count):
-    while time.monotonic() < until:
-        try:
-            said = (by_words if way == 'words' else by_program)(row.format(amount))
-        except (OSError, http.client.HTTPException, ValueError):
-            said = ''
-        if 'handed in' in said or 'handed_in' in said:
-            break
-        time.sleep(0.2)
-    print(amount, flush=True)
-"""
-
-
-def many_trials(path: Path, office: Path, people: list[Login], desk: SocketDesk, rows: int) -> Told:
-    """Ten people at once hand in, half of them by words and half as programs, and the server is killed meanwhile,
-    twice: nothing is lost, nothing stands twice, and each row is of the login that handed it in."""
-    ways = [
-        (people[place // 2 % len(people)], "words" if place % 2 else "program", FIRST * (place + 1))
-        for place in range(10)
-    ]
-    line = [sys.executable, "-I", "-c", HAND_IN, str(PYTHON), str(path)]
-    begun = [
-        subprocess.Popen(
-            ["setpriv", f"--reuid={login.user}", f"--regid={login.group}", "--clear-groups", *line, way, str(first),
-             str(rows)], stdout=subprocess.PIPE, stderr=subprocess.PIPE, text=True, cwd="/",
-        )
-        for login, way, first in ways
-    ]  # fmt: skip
-    for _ in range(2):
-        # (some of them are at work)
-        for process in begun[:2]:
-            assert process.stdout is not None
-            process.stdout.readline()
-        desk.kill_server()
-    ends = [process.communicate()[1] for process in begun]
-    yield "all of them have ended", [end[-900:] for process, end in zip(begun, ends) if process.returncode]
-    wanted = sorted((login.name, amount) for login, _, first in ways for amount in range(first, first + rows))
-    yield "each once, by its login", differs(sorted(handed_in(office)), wanted)
-
-
-def handed_in(office: Path) -> Iterator[tuple[str, int]]:
-    """The rows of the trial above that are there, each with its login."""
-    with contextlib.closing(sqlite3.connect(f"file:{office}/registry.sqlite?mode=ro", uri=True)) as db:
-        there = "SELECT login, packed FROM events JOIN texts ON text = texts.sum WHERE what = 'handed' AND of IS NULL"
-        for login, packed in db.execute(there):
-            for row in zlib.decompress(packed).decode().splitlines():
-                amount = row.rpartition(",")[2]
-                if row.startswith("do,") and amount.isdigit() and int(amount) >= FIRST and ",100210,300118," in row:
-                    yield login.rpartition(":")[2], int(amount)

@@ -66,8 +66,7 @@ class Way:
     def gives(self, words: list[str], behind: list[str], who: str) -> tuple[int, bytes, bytes]:
         """The status, the output and the errors of a command."""
         own = [word.replace("FILES", str(self.files)) for word in words]
-        line = ["setpriv", f"--reuid={self.login.user}", f"--regid={self.login.group}", "--clear-groups",
-                str(TOP / "day"), *self.before, *own, *behind]  # fmt: skip
+        line = self.login.line(TOP / "day", *self.before, *own, *behind)
         env = {"PATH": os.environ["PATH"], "LC_ALL": "C.UTF-8", "LOGNAME": who, "REGISTRY_PROGRAMS": str(TOP)}
         said = subprocess.run(
             line, cwd=self.place, env=env, stdin=subprocess.DEVNULL, capture_output=True, timeout=MOST_SECONDS,

@@ -33,9 +33,13 @@ class Login:
     user: int
     group: int
 
+    def line(self, *command: object) -> list[str]:
+        """The words that start a command as this login."""
+        return ["setpriv", f"--reuid={self.user}", f"--regid={self.group}", "--clear-groups", *map(str, command)]
+
     def run(self, command: Sequence[str | Path], **more: str) -> subprocess.CompletedProcess[str]:
         """Runs a command as this login, as one of a group that may write what the others make."""
-        own = ["setpriv", f"--reuid={self.user}", f"--regid={self.group}", "--clear-groups", *command]
+        own = self.line(*command)
         said = {"PATH": os.environ["PATH"], "HOME": "/nonexistent", "LC_ALL": "C.UTF-8", **more}
         return subprocess.run(
             own, cwd="/", env=said, umask=0o002, capture_output=True, text=True, timeout=MOST_SECONDS, check=False

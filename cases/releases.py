@@ -14,8 +14,8 @@ from functools import partial
 from pathlib import Path
 
 import changed_archives
+import debian_packages
 from by_pip import commands_fault, editable_fault, folder_fault, new_room, room_of_pipx, told_fault, wheels_fault
-from debian_packages import debian_fault
 from harness import TOP, LeftOut, Trial, answer_of, differs
 from lived_weeks import Somebody, week_fault
 from standins import VERSION
@@ -242,4 +242,4 @@ def own_trials(made: Path, sources: Path, room: Path, is_built: bool) -> Iterato
         yield "the folder for Python", lambda: folder_fault(sources, room / "of-python")
         yield "the jar", lambda: java_fault(folder(), room / "java")
         yield "the Rust crate", lambda: rust_fault(folder(), room / "rust")
-    yield "packages of Debian", lambda: debian_fault(made, room / "debian")
+    yield from debian_packages.trials(made, room)

@@ -9,6 +9,7 @@ import os
 import signal
 import subprocess
 import sys
+import threading
 from collections.abc import Callable, Iterator
 from pathlib import Path
 
@@ -204,6 +205,18 @@ def test_status_tells_programs_when_what_waits_is_due(tmp_path: Path) -> None:
         office.close(week, office.caller(week, "ana"), office.Close(datetime.date(2025, 9, 22), True, yes=True))
         rows = [row[:3] for row in office.status(week).rows if row[0] == "waiting"]
     assert rows == [["waiting", "2025-09-23", 61004], ["waiting", "2025-09-24", 61005]]
+
+
+def test_who_looks_lets_go_of_no_lock(folder: office.Office) -> None:
+    """While a process changes a folder, and looks at it in another thread, no other process changes it."""
+    command: list[Word] = [TOP / "day", "label", "user", "1", "x", "--why", "x", "--office", folder.path]
+    with folder.store.change():
+        looks = threading.Thread(target=folder.store.is_changing)
+        looks.start()
+        looks.join()
+        said = answer_of(command)
+    assert b"another command changes it just now" in said[1] and said[2] == 3, said
+    assert answer_of(command)[2] == 0
 
 
 def test_folder_of_a_program_is_read_by_another_process(folder: office.Office) -> None:

@@ -269,7 +269,9 @@ PRERM_OF_DESK = """\
 #!/bin/sh
 set -e
 if [ "$1" = remove ] && [ -d /run/systemd/system ]; then
-  systemctl disable --now registry-desk.service
+  deb-systemd-invoke stop registry-desk.service
+  # (whoever enabled it did so by hand)
+  rm -f /etc/systemd/system/*.wants/registry-desk.service
 fi
 """
 # The head of a version in CHANGELOG.md, with its day.

@@ -63,18 +63,18 @@ class Waits:
 
     def look_at(self, day: DayText, found: Findings) -> None:
         """Takes off what a day takes up, and tells what is due on it and is not there: once."""
-        there = Counter(i.row for i in day.instructions)
+        rows = Counter(i.row for i in day.instructions)
         left, head = [], day.day()
-        for own in self.waiting:
-            asked, before = own.logged.instruction, f"{own.path}:{own.logged.line}"
-            if there[asked.row]:
-                there[asked.row] -= 1
+        for waits in self.waiting:
+            asked, before = waits.logged.instruction, f"{waits.path}:{waits.logged.line}"
+            if rows[asked.row]:
+                rows[asked.row] -= 1
             elif is_due(head, asked):
                 due = due_on(head, asked)
                 expected = f"{shown(asked.row)}, which {before} refused as {NOT_DUE}, and which is due on {due}"
                 found.add(FileFault(day.path, day.source.line(day.first_do), "do", "no such row", expected))
             else:
-                left.append(own)
+                left.append(waits)
         self.waiting = left
 
     def add(self, report: Report) -> None:

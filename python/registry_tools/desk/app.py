@@ -17,8 +17,8 @@ from registry_tools.desk import (
     asks, coming, gate, machines, own, pages, posts, questions, search, settings_page, shown, words,
 )  # fmt: skip
 from registry_tools.desk.gate import Served
-from registry_tools.door import heads
-from registry_tools.errors import Fault, FileFault
+from registry_tools.door import heads, log
+from registry_tools.errors import Fault, FileFault, RightsFault
 from registry_tools.pages import beside, html
 from registry_tools.pages.rulebook import FORMATS, RULES, document_parts
 from registry_tools.pages.settled import long_date
@@ -148,18 +148,28 @@ def changed(served: Served, view: Callable[..., Any]) -> Any:
 
 
 def failed(served: Served, error: Exception) -> Any:
-    """What went wrong, on a page."""
+    """What went wrong, on a page and in the log."""
+    code, text, back = told_of(error)
+    head, why = gate.head(), "what was asked can't be done"
+    # (other sentences have words in them that somebody typed)
+    told = text.partition(":")[0] if isinstance(error, RightsFault) else why
+    log.refused(head.peer, head.method, head.path, code, told)
+    return gate.said(code, text, back=back)
+
+
+def told_of(error: Exception) -> tuple[int, str, str]:
+    """What is told of an error: its status, its words, and the form to which the page leads back."""
     if isinstance(error, HTTPException):
         own = error.description if isinstance(error, NotFound) and error.description != NotFound.description else ""
         code = error.code or 500
-        return gate.said(code, str(own or OTHER.get(code, f"{error.name}.")))
+        return code, str(own or OTHER.get(code, f"{error.name}.")), ""
     if isinstance(error, OSError):
         name = Path(str(error.filename or "the folder")).name
-        return gate.said(500, f"{name}: it cannot be read or written: {error.strerror or 'for a reason not known'}")
+        return 500, f"{name}: it cannot be read or written: {error.strerror or 'for a reason not known'}", ""
     asked = flask.request
     is_typed = asked.path in SECTIONS and asked.args and shown.TYPED not in asked.args
     back = shown.back_of_form() if asked.method == "POST" else shown.address(typed=1) if is_typed else ""
-    return gate.said(409 if isinstance(error, FileFault) else 400, str(error), back=back)
+    return 409 if isinstance(error, FileFault) else 400, str(error), back
 
 
 def dress(app: flask.Flask, served: Served) -> None:

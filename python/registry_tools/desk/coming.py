@@ -43,7 +43,7 @@ def found_until(own: Reading) -> tuple[list[due.Due], datetime.date]:
     assert settled is not None  # (who asks has looked)
     # (what nothing changes that is handed in is kept)
     known = own.once(("due", voice.is_desk()), own.state_of_days(),
-                     functools.partial(due.of_days, office, settled.day, settled.report))  # fmt: skip
+                     functools.partial(due.of_days, office, settled.day, settled.report, own.standings_of_last))
     state = f"{own.all_states()} {datetime.date.today()}"
     return own.once(("due", until, voice.is_desk()), state, lambda: due.with_calendar(office, until, known)), until
 

@@ -37,9 +37,11 @@ from registry_tools.questions import days, month as months
 from registry_tools.questions.days import Days
 from registry_tools.store import file, past
 from registry_tools.store.events import LABELLED, Event
+from registry_tools.store.past import PastDay
 from registry_tools.texts.checks import checks, form_words
 from registry_tools.texts.day_text import DayText
 from registry_tools.texts.namebook import Labels
+from registry_tools.texts.report import Report
 
 T = TypeVar("T")
 # What takes longer than so many seconds is large.
@@ -113,7 +115,14 @@ class Reading:
     def anew(self) -> Iterator[Office]:
         """The folder, opened once more: for what is tried in it, and then taken back."""
         with folder.at(folder.folder_of(str(self.path))) as office:
-            yield office
+            yield self.with_last(office)
+
+    def with_last(self, office: Office) -> Office:
+        """The folder with its last day, as that was read here before."""
+        last, own = self.office().last(), self.settled()
+        if last is not None and own is not None:
+            office.known = last.line, own.day, own.report
+        return office
 
     def state(self) -> str:
         """What a change builds on; nothing, if the folder cannot be read."""
@@ -236,6 +245,10 @@ class Reading:
         told = compliance.standings(own.day, own.report, year)
         return self.once(("standings", year), self.state_of_days(), lambda: sorted(told, key=standing.order))
 
+    def standings_of_last(self, _day: DayText, _report: Report, year: int) -> list[Standing]:
+        """The same, for what asks by the last day and its report."""
+        return self.standings(year)
+
     def held_over(self, count: int) -> list[tuple[datetime.date, dict[str, int]]]:
         """What all accounts held after each of so many last days."""
         return self.once("held", self.state_of_days(), lambda: self.of_days(lambda own: months.held_over(own, count)))
@@ -251,10 +264,13 @@ class Reading:
 
     def month(self, asked: Month) -> tuple[str, str, list[Markup]]:
         """Several days together, as the page of ./day month has them."""
-        office = self.office()
+        office, last = self.office(), self.settled()
 
         def parts(there: Days) -> tuple[str, str, list[Markup]]:
-            return month.parts_of(there, office, self.names(), asked, MOST_ROWS, link)
+            if last is not None:
+                # (the last day is read already)
+                there.read = {last.head.date: PastDay(last.day, last.report, None, [])}
+            return month.parts_of(there, office, self.names(), asked, MOST_ROWS, link, self.standings_of_last)
 
         return self.once(("month", asked), self.state_of_days(), lambda: self.of_days(parts))
 
@@ -283,7 +299,7 @@ class Reading:
 
         def work() -> NextDay:
             with composing.telling_the_way_out():
-                return composing.compose(office, handed_in.until(date), date)
+                return composing.compose(self.with_last(office), handed_in.until(date), date)
 
         return self.of_next("composed", date, work)
 

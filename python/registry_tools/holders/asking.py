@@ -70,9 +70,12 @@ def words_asked(own: Own, person: Person, said: Mapping[str, str], date: datetim
 def asking(office: Office, by: By, own: Own) -> Iterator[Person]:
     """The block changes the folder as a login does that is tied to this holder. Raises NotTaken if it is not."""
     with office.changing(OWN, by):
-        person = office.people.named.get(people.person_of(office.login))
+        person, last = office.people.named.get(people.person_of(office.login)), office.last()
         if person is None or person.tied_to(HOLDER) != own.holder:
             raise NotTaken(LOOKS)
+        if last is None or last.date != own.settled.head.date:
+            # (an account may be another holder's by now)
+            raise NotTaken("another day was settled since you looked: look once more")
         yield person
 
 

@@ -158,19 +158,19 @@ def is_own(office: Office, part: Part, login: str = "") -> bool:
 
 def handed_in_of(office: Office) -> HandedIn:
     """What was handed in for the next day: with what waits for another login, and who approved the others."""
-    there = intake.for_the_next_day(office.store)
-    there.waiting, there.approved = [], []
-    asked = [part for part in there.parts if needs_second(office, part) and there.left_of(part)]
+    handed_in = intake.for_the_next_day(office.store)
+    handed_in.waiting, handed_in.approved = [], []
+    asked = [part for part in handed_in.parts if needs_second(office, part) and handed_in.left_of(part)]
     given = all_approvals(office) if asked else []
     for part in asked:
-        own = sum_of_part(there, part)
-        by = next((each for each in given if is_second(office, each, commands_for(office, part, each.login), own,
+        part_sum = sum_of_part(handed_in, part)
+        by = next((each for each in given if is_second(office, each, commands_for(office, part, each.login), part_sum,
                                                        part.login)), None)  # fmt: skip
         if by is None:
-            there.waiting.append(part)
+            handed_in.waiting.append(part)
         else:
-            there.approved.append(Approved(by.at, by.who, part.start, by.login))
-    return there
+            handed_in.approved.append(Approved(by.at, by.who, part.start, by.login))
+    return handed_in
 
 
 def commands_for(office: Office, part: Part, login: str) -> tuple[str, ...]:
@@ -181,8 +181,8 @@ def commands_for(office: Office, part: Part, login: str) -> tuple[str, ...]:
 
 def approvers(office: Office, asked: Asked) -> list[str]:
     """The logins that approved what is asked for."""
-    there = all_approvals(office)
-    return [own.login for own in there if is_second(office, own, asked.commands, asked.sum, asked.login)]
+    of_others = asked.commands, asked.sum, asked.login
+    return [approval.login for approval in all_approvals(office) if is_second(office, approval, *of_others)]
 
 
 # Asking.

@@ -69,11 +69,11 @@ def part_at(office: Office, handed_in: HandedIn, word: str) -> Part:
 
 def left_to_approve(office: Office, handed_in: HandedIn, parts: list[Part]) -> list[Part]:
     """What is not approved yet, each part once. Ends the command if another login approved one, or this one all."""
-    known = {own.place: own for own in handed_in.approved}
+    approved = {approval.place: approval for approval in handed_in.approved}
     named = {part.start: part for part in parts}
-    left = [part for place, part in named.items() if place not in known]
+    left = [part for place, part in named.items() if place not in approved]
     for place in named:
-        by = known.get(place)
+        by = approved.get(place)
         if by is not None and (by.login != office.login or not left):
             raise WordsFault(f"place {place} was approved by {by.login} at {voice.time(by.at)}")
     return left
@@ -102,11 +102,11 @@ def approve_command(office: Office, by: By, command: str, date: datetime.date) -
     """Approves what somebody asked for, and answers it with who asked. Raises WordsFault if nobody asked for it as the
     folder stands now, or if this login may not approve it."""
     with office.changing("approve", by):
-        there = [asked for asked in approvals.all_asked(office) if asked.words == (command, str(date))]
-        if not there:
+        asked_for = [asked for asked in approvals.all_asked(office) if asked.words == (command, str(date))]
+        if not asked_for:
             way = f"{voice.command(command)} asks for it"
             raise WordsFault(f"nobody asked for {command} of {date} as the folder stands now", way)
-        asked = there[0]
+        asked = asked_for[0]
         must_be_other(office, asked.commands, asked.who, asked.login)
         must_be_same(office, asked)
         if office.login not in approvals.approvers(office, asked):

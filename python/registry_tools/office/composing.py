@@ -121,7 +121,10 @@ def last_day(office: Office) -> Event:
 
 def last_pair(office: Office, has_book: bool = True) -> tuple[DayText, Report]:
     """The last day of a folder, and its report; without the accounts before the day, if nobody asks for them."""
-    return past.read(office.store.pair_of(last_day(office)), None, has_book)
+    last = last_day(office)
+    if office.known is not None and office.known[0] == last.line:
+        return office.known[1:]
+    return past.read(office.store.pair_of(last), None, has_book)
 
 
 def filed_calendar(office: Office, event: Event) -> list[datetime.date]:

@@ -188,22 +188,22 @@ class Correction:
             if event.first <= record < event.next:
                 return event, past_day.report.log[record - event.first]
         first, last = self.days[0], self.days[-1]
-        there = f"{first.date} has the records {first.first} to {first.next - 1}"
-        said = voice.option("without", record)
-        raise WordsFault(f"{said}: {there}, and the days behind it have them up to {last.next - 1}")
+        range_told = f"{first.date} has the records {first.first} to {first.next - 1}"
+        option = voice.option("without", record)
+        raise WordsFault(f"{option}: {range_told}, and the days behind it have them up to {last.next - 1}")
 
     def waited(self, record: int) -> WordsFault:
         """That a record waited since an earlier day, with the words by which it is left out of that one."""
         event, logged = self.logged(record)
         row = logged.instruction.row
-        said = f"{voice.option('without', record)}: it waited since an earlier day, which it was handed in for: {row}"
+        why = f"{voice.option('without', record)}: it waited since an earlier day, which it was handed in for: {row}"
         for earlier in reversed([own for own in self.all_days if own.date < event.date]):
             _, report = past.read(self.office.store.pair_of(earlier))
             waited = [own.record for own in report.log if own.name == NOT_DUE and own.instruction.row == row]
             if waited:
                 way = f"{voice.command('correct', earlier.date, '--without', waited[0])} leaves it out"
-                return WordsFault(said, way, "; ")
-        return WordsFault(said)
+                return WordsFault(why, way, "; ")
+        return WordsFault(why)
 
     # The days once more.
 
@@ -234,8 +234,8 @@ class Correction:
     def closed(self, place: int, event: Event, reports: Reports | None) -> Settled:
         """A day once more, behind another report than before."""
         try:
-            there = self.handed_again(place, event, reports)
-            composed = composing.compose(self.office, there, event.date)
+            handed_in = self.handed_again(place, event, reports)
+            composed = composing.compose(self.office, handed_in, event.date)
             return close.settle(self.office, composed, self.asked.by_second, self.asked.verifies)
         except Fault as fault:
             fault.behind = event.date if event.date != self.asked.date else None
@@ -243,15 +243,15 @@ class Correction:
 
     def handed_again(self, place: int, event: Event, reports: Reports | None) -> HandedIn:
         """Hands in again what was handed in for a day, without what is left out, and with what is added."""
-        filed, there = self.filed[place], HandedIn(self.office.store)
+        filed, handed_in = self.filed[place], HandedIn(self.office.store)
         gone = self.left_out(filed, event)
         for part in filed.parts:
-            self.hand_in_again(there, filed, part, gone, event.date, reports)
+            self.hand_in_again(handed_in, filed, part, gone, event.date, reports)
         if event.date == self.asked.date:
-            here = Here(there)
+            here = Here(handed_in)
             for each in self.added:
                 hand_in.add(self.office, here, each)
-        return there
+        return handed_in
 
     def left_out(self, filed: HandedIn, event: Event) -> set[int]:
         """The places of what is left out of what was handed in for a day."""
@@ -266,7 +266,7 @@ class Correction:
         return gone
 
     def hand_in_again(
-        self, there: HandedIn, filed: HandedIn, part: Part, gone: set[int], date: datetime.date,
+        self, handed_in: HandedIn, filed: HandedIn, part: Part, gone: set[int], date: datetime.date,
         reports: Reports | None,
     ) -> None:  # fmt: skip
         """Hands a part in again, without the places that are left out."""
@@ -277,7 +277,7 @@ class Correction:
             rows = [*others, *rows, "end"]
         elif not left:
             return
-        intake.put_again(self.office, there, part, text_of_rows(rows), len(left), date)
+        intake.put_again(self.office, handed_in, part, text_of_rows(rows), len(left), date)
 
     def rows_again(self, item: Item, date: datetime.date, reports: Reports | None) -> list[str]:
         """The rows of something that is handed in again. Of an account that was handed in as a whole, what a hand

@@ -44,8 +44,8 @@ class Added:
 
     def outcome(self) -> list[str]:
         """What would come of it, in lines, whatever else is handed in."""
-        there = self.places()
-        return [*self.again, *(f"{own.said()} {own.do_row}" for own in self.looked if own.place in there)]
+        places = self.places()
+        return [*self.again, *(f"{tried.said()} {tried.do_row}" for tried in self.looked if tried.place in places)]
 
 
 def hand_in(office: Office, by: By, asked: HandIn) -> Added:
@@ -148,14 +148,14 @@ def add(office: Office, here: Here, own: Incoming) -> Part:
     return part
 
 
-def refuse(office: Office, here: Here, own: Incoming, line: int, what: tuple[str, str], before: Before) -> None:
+def refuse(office: Office, here: Here, file: Incoming, line: int, what: tuple[str, str], before: Before) -> None:
     """Ends the command at something that the folder has had, unless it may come again. If the whole file is one that it
     has had, that is told."""
-    path, there = own.path, here.handed_in
-    if here.takes(own.given, line, before):
+    path, handed_in = file.path, here.handed_in
+    if here.takes(file.given, line, before):
         return
-    checksum = sum_of(own.content)
-    same = next((part for part in there.parts if part.sum == checksum and there.left_of(part)), None)
+    checksum = sum_of(file.content)
+    same = next((part for part in handed_in.parts if part.sum == checksum and handed_in.left_of(part)), None)
     when = f"by {same.who} at {voice.time(same.at)} as {same.name}" if same else earlier.file_had(office, checksum)
     more = f"{voice.option('again', f'{path}:{line}')} hands in once more what stands there"
     if when:
@@ -164,33 +164,33 @@ def refuse(office: Office, here: Here, own: Incoming, line: int, what: tuple[str
     else:
         name, expected = what
         fault = HadFault(path, line, name, before.words, expected)
-    fault.of, fault.at, fault.way = own.given, line, more
+    fault.of, fault.at, fault.way = file.given, line, more
     raise fault
 
 
-def refuse_instructions(office: Office, here: Here, own: Incoming) -> None:
+def refuse_instructions(office: Office, here: Here, file: Incoming) -> None:
     """Ends the command at an instruction that is there already, or is done."""
-    source = own.rows
+    source = file.rows
     rows = {row for row in source.rows if row != "end"}
     # (what was refused for good may come again)
-    there = {
-        row: Before(f"one that {own_day}: {row}", None, own_day.refused not in ("", NOT_DUE))
-        for row, own_day in earlier.instructions_had(office, rows).items()
+    had = {
+        row: Before(f"one that {day_had}: {row}", None, day_had.refused not in ("", NOT_DUE))
+        for row, day_had in earlier.instructions_had(office, rows).items()
     }
     for row in rows & {waits.instruction.row for waits in waits_of(office)}:
-        there[row] = Before(f"one that waits for its due day, and comes by itself: {row}")
+        had[row] = Before(f"one that waits for its due day, and comes by itself: {row}")
     for item in here.handed_in.items(intake.FIRST, DO):
         row = item.rows[0]
         if row in rows:
             named = here.named_as(item.part)
             where = f"stands in {named}" if named else f"was handed in, place {item.place}"
-            there[row] = Before(f"one that {where}: {row}", item.place)
+            had[row] = Before(f"one that {where}: {row}", item.place)
     for place, row in enumerate(source.rows):
         if row != "end":
             line = source.line(place)
-            if row in there:
-                refuse(office, here, own, line, ("do row", "an instruction that is new"), there[row])
-            there[row] = Before(f"one as in line {line}: {row}")
+            if row in had:
+                refuse(office, here, file, line, ("do row", "an instruction that is new"), had[row])
+            had[row] = Before(f"one as in line {line}: {row}")
 
 
 def refuse_blocks(office: Office, here: Here, own: Incoming) -> None:
@@ -203,17 +203,18 @@ def refuse_blocks(office: Office, here: Here, own: Incoming) -> None:
             refuse(office, here, own, line, ("account", "an account that is new or has changed"), before)
 
 
-def refuse_accounts(here: Here, own: Incoming) -> None:
+def refuse_accounts(here: Here, file: Incoming) -> None:
     """Ends the command at an account that was handed in before: nobody knows which of its blocks is meant."""
-    there = {item.rows[0].split(",")[1]: item for item in here.handed_in.items(CHANGES)}
-    source = own.rows
+    handed_accounts = {item.rows[0].split(",")[1]: item for item in here.handed_in.items(CHANGES)}
+    source = file.rows
     for place, row in enumerate(source.rows):
         tag, _, rest = row.partition(",")
         number = rest.partition(",")[0]
-        if tag == "account" and number in there:
-            item = there[number]
+        if tag == "account" and number in handed_accounts:
+            item = handed_accounts[number]
             named = here.named_as(item.part)
             where = f"stands in {named}" if named else f"was handed in at place {item.place}"
-            fault = FileFault(own.path, source.line(place), "NO", f"account {number}, which {where}", "another account")
+            found = f"account {number}, which {where}"
+            fault = FileFault(file.path, source.line(place), "NO", found, "another account")
             fault.way = "" if named else f"{voice.command('take-back')} takes that one back"
             raise fault

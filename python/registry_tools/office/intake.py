@@ -124,8 +124,8 @@ class HandedIn:
 
     def of(self, parts: list[Part]) -> "HandedIn":
         """The same with these parts alone."""
-        taken = [own for own in self.taken if any(part.start <= own.place < part.end for part in parts)]
-        approved = [own for own in self.approved if any(part.start == own.place for part in parts)]
+        taken = [each for each in self.taken if any(part.start <= each.place < part.end for part in parts)]
+        approved = [each for each in self.approved if any(part.start == each.place for part in parts)]
         waiting = [part for part in self.waiting if part in parts]
         return HandedIn(self.store, parts, taken, approved, waiting, self.known, self.firsts)
 
@@ -163,8 +163,8 @@ class HandedIn:
         own_places = range(part.start, part.end) if len(starts) >= part.count else self.left_of(part)
         for place, start, end in zip(own_places, starts, ends):
             behind = (end or len(source.rows)) if part.kind == CHANGES else start + 1
-            own = [index for index in range(start, behind) if source.rows[index] != "end"]
-            yield Item(place, part, [source.rows[index] for index in own], [source.line(index) for index in own])
+            indexes = [index for index in range(start, behind) if source.rows[index] != "end"]
+            yield Item(place, part, [source.rows[index] for index in indexes], [*map(source.line, indexes)])
 
     def items(self, *kinds: str) -> Iterator[Item]:
         """What counts of these kinds, in order."""
@@ -214,43 +214,43 @@ def for_the_next_day(store: Store) -> HandedIn:
 
 def for_a_day(store: Store, filed: Event) -> HandedIn:
     """What came into a settled day: what stood before it, without what was handed in again behind it."""
-    there = behind(store, filed.base)
-    again = {own.origin for own in store.events.since(filed.id) if own.what == HANDED}
-    return there.of([part for part in there.parts if part.origin.id not in again])
+    all_in = behind(store, filed.base)
+    again = {event.origin for event in store.events.since(filed.id) if event.what == HANDED}
+    return all_in.of([part for part in all_in.parts if part.origin.id not in again])
 
 
 def behind(store: Store, base: int) -> HandedIn:
     """What was handed in behind an event that filed or undid a day, and before the next one."""
-    own = store.events.since(base)
-    given = [event for event in own if event.what == HANDED]
+    since = store.events.since(base)
+    given = [event for event in since if event.what == HANDED]
     last = next((event for event in reversed(given) if event.kind == FIRST), None)
     parts = [part_by(store, event) for event in given if event.kind != FIRST or event is last]
-    taken = [Taken(event.at, event.who, event.start, event.why, event.login) for event in own if event.what == TAKEN]
-    there, until = HandedIn(store, parts, taken), own[-1].id if own else base
+    taken = [Taken(event.at, event.who, event.start, event.why, event.login) for event in since if event.what == TAKEN]
+    handed_in, until = HandedIn(store, parts, taken), since[-1].id if since else base
     for part in parts:
         by = approval_of(store, part, until)
-        if by and there.left_of(part):
-            there.approved.append(Approved(by.at, by.who, part.start, by.login))
-    return there
+        if by and handed_in.left_of(part):
+            handed_in.approved.append(Approved(by.at, by.who, part.start, by.login))
+    return handed_in
 
 
 def approval_of(store: Store, part: Part, until: int) -> Event | None:
     """The last approval of a part, up to an event; of what is another thing since, because some of it was taken back,
     none. (A day that is corrected is closed once more with what was approved before.)"""
-    there = store.events.looked_at.get(part.origin.id, [])
-    last = next((event for event in reversed(there) if event.id <= until), None)
+    looks = store.events.looked_at.get(part.origin.id, [])
+    last = next((event for event in reversed(looks) if event.id <= until), None)
     return last if last and last.what == APPROVED else None
 
 
 def part_by(store: Store, event: Event) -> Part:
     """A part, with the event that handed it in first, and what its rows were made of."""
-    there = store.events
-    origin = there.of_id(event.origin)
+    events = store.events
+    origin = events.of_id(event.origin)
     sources = []
-    for own in there.all[origin.id :]:
-        if own.what != SOURCE or own.of != origin.id:
+    for source in events.all[origin.id :]:
+        if source.what != SOURCE or source.of != origin.id:
             break
-        sources.append(own)
+        sources.append(source)
     return Part(
         event, origin, tuple(sources), origin.at, origin.who, origin.login, event.kind, event.name, event.start,
         event.count, event.start + event.count, event.text, None if event.date == NO_DATE else event.date,
@@ -260,35 +260,35 @@ def part_by(store: Store, event: Event) -> Part:
 # Handing in.
 
 
-def put(office: Office, there: HandedIn, kind: str, content: bytes, count: int, name: str,
+def put(office: Office, handed_in: HandedIn, kind: str, content: bytes, count: int, name: str,
         originals: Iterable[Original] = (), **said: Any) -> Part:  # fmt: skip
     """Hands something in, in a change of the file, with what it was made of."""
     store = office.store
-    start = 1 if kind == FIRST else there.end
+    start = 1 if kind == FIRST else handed_in.end
     event = office.add(HANDED, kind=kind, name=name, start=start, count=count, text=store.texts.put(content), **said)
-    for own in originals:
-        text = store.texts.put(own.content)
-        office.add(SOURCE, of=event.id, kind=f"{own.what}{own.ending}", name=own.name, text=text)
+    for original in originals:
+        text = store.texts.put(original.content)
+        office.add(SOURCE, of=event.id, kind=f"{original.what}{original.ending}", name=original.name, text=text)
     part = part_by(store, event)
-    there.parts.append(part)
+    handed_in.parts.append(part)
     return part
 
 
 def put_again(
-    office: Office, there: HandedIn, old: Part, content: bytes, count: int, earliest: datetime.date | None
+    office: Office, handed_in: HandedIn, old: Part, content: bytes, count: int, earliest: datetime.date | None
 ) -> Part:
     """Hands in again what was handed in before: behind a day that was filed or undone."""
-    return put(office, there, old.kind, content, count, old.name, of=old.origin.id, date=earliest or NO_DATE)
+    return put(office, handed_in, old.kind, content, count, old.name, of=old.origin.id, date=earliest or NO_DATE)
 
 
 def put_left(
-    office: Office, there: HandedIn, old: HandedIn, parts: Iterable[Part], date: datetime.date | None = None
+    office: Office, handed_in: HandedIn, old: HandedIn, parts: Iterable[Part], date: datetime.date | None = None
 ) -> None:
     """Hands in again what was not taken back of these parts, for this date or later, if one is named."""
     for part in parts:
         left = [*old.items_left(part)]
         if part.kind == FIRST:
-            put_again(office, there, part, office.store.texts.get(part.sum), part.count, date)
+            put_again(office, handed_in, part, office.store.texts.get(part.sum), part.count, date)
         elif left:
             content = text_of_rows([row for item in left for row in item.rows])
-            put_again(office, there, part, content, len(left), date or part.earliest)
+            put_again(office, handed_in, part, content, len(left), date or part.earliest)

@@ -88,24 +88,24 @@ def lines_of(store: Store) -> Iterator[str]:
 
 def not_grown(store: Store, head: str, date: datetime.date | None) -> FileFault | None:
     """What shows that a folder has not grown from a head, whose last day was `date`; nothing, if it has."""
-    there = store.events
+    events = store.events
     if any(line.startswith(head) for line in lines_of(store)):
         return None
-    last = there.last()
+    last = events.last()
     found = f"no line with the head {head[:FEWEST_DIGITS]}"
     if date is None:
-        return FileFault(there.path, 0, "head", found, "a file that has grown from it; --date tells its last day")
+        return FileFault(events.path, 0, "head", found, "a file that has grown from it; --date tells its last day")
     if last is None or last.date < date:
         ends = f"its last day is {last.date}" if last else "no day is settled"
         expected = f"the day {date}, after which the head was taken: this is an earlier state, or another folder"
-        return FileFault(there.path, 0, "head", f"{found}: {ends}", expected)
-    expected = f"another history up to {date}: {parting(there, date)}"
-    return FileFault(there.path, 0, "head", found, expected)
+        return FileFault(events.path, 0, "head", f"{found}: {ends}", expected)
+    expected = f"another history up to {date}: {parting(events, date)}"
+    return FileFault(events.path, 0, "head", found, expected)
 
 
-def parting(there: Events, date: datetime.date) -> str:
+def parting(events: Events, date: datetime.date) -> str:
     """Up to when a folder and one with another head may have gone together."""
-    event: Event | None = next((own for own in reversed(there.days) if own.date <= date), None)
+    event: Event | None = next((filed for filed in reversed(events.days) if filed.date <= date), None)
     return f"here {event.date} was filed by {event.who} at {event.at}" if event else "here no day is filed up to then"
 
 
@@ -126,11 +126,11 @@ def anchor_of(office: Office) -> Anchor:
 def keep(path: str, anchor: Anchor) -> int:
     """Puts an anchor behind those of a file, and answers how many there are."""
     must_be_writable(path)
-    there = bytes_of(path) if is_there(path) else b""
-    if there and not there.endswith(b"\n"):
+    before = bytes_of(path) if is_there(path) else b""
+    if before and not before.endswith(b"\n"):
         raise FileFault(path, 0, "", "no line end behind the last line", "a line end: the file may be cut")
-    count = sum(1 for _ in read(path)) if there else 0
-    new_file(path, there + f"{anchor.row()}\n".encode("utf-8", "surrogateescape")).keep()
+    count = sum(1 for _ in read(path)) if before else 0
+    new_file(path, before + f"{anchor.row()}\n".encode("utf-8", "surrogateescape")).keep()
     return count + 1
 
 

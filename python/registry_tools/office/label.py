@@ -86,15 +86,17 @@ def new_of(asked: list[Label], before: Labels) -> list[Label]:
 def doubts_of(office: Office, new: list[Label], before: Labels) -> Iterator[str]:
     """What may be a slip of names that are new behind those of before: a number that nobody has, and a name that
     another one has too."""
-    known = numbers_of(office)
-    now = Labels({key: own for key, own in (before.named | {own[:2]: own for own in new}).items() if own.name})
-    strange = [own for own in new if own.name and int(own.number) not in known[own.kind]]
-    for own in strange[:MOST_TOLD]:
-        yield f"{LOOK}: there is no {own.kind} {own.number} yet"
-    for own in new[:MOST_TOLD]:
-        same = [each for each in now.of_words(own.name, own.kind) if as_looked_up(each.name) == as_looked_up(own.name)]
-        for other in (each for each in same if own.name and each.number != own.number):
-            yield f"{LOOK}: {own.kind} {other.number} has the same name"
+    numbers = numbers_of(office)
+    named = before.named | {label[:2]: label for label in new}
+    now = Labels({key: label for key, label in named.items() if label.name})
+    strange = [label for label in new if label.name and int(label.number) not in numbers[label.kind]]
+    for label in strange[:MOST_TOLD]:
+        yield f"{LOOK}: there is no {label.kind} {label.number} yet"
+    for label in new[:MOST_TOLD]:
+        like = now.of_words(label.name, label.kind) if label.name else []
+        same = [each for each in like if as_looked_up(each.name) == as_looked_up(label.name)]
+        for other in (each for each in same if each.number != label.number):
+            yield f"{LOOK}: {label.kind} {other.number} has the same name"
 
 
 def numbers_of(office: Office) -> dict[str, set[int]]:

@@ -2,7 +2,7 @@
 import contextlib
 import re
 from collections.abc import Iterable, Iterator
-from dataclasses import dataclass
+from dataclasses import dataclass, field
 from pathlib import Path
 from typing import Any
 
@@ -15,7 +15,9 @@ from registry_tools.store.events import APPROVED, ASKED, HANDED, LABELLED, OF_DA
 from registry_tools.store.file import Store
 from registry_tools.store.texts import sum_of
 from registry_tools.texts import namebook
+from registry_tools.texts.day_text import DayText
 from registry_tools.texts.namebook import Labels
+from registry_tools.texts.report import Report
 from registry_tools.texts.rows import rows_of_text
 
 # What somebody is told who looked at the folder before somebody else changed it.
@@ -53,6 +55,8 @@ class Office:
     login: str = ""
     who: str = ""
     late: str = CAME_LATE
+    # The last day with its report, by the line of its event, if somebody has read it before: nobody changes either.
+    known: tuple[str, DayText, Report] | None = field(default=None, init=False)
 
     @property
     def events(self) -> Events:

@@ -196,16 +196,16 @@ def read(path: Path, text: str) -> People:
 def person_named(path: Path, login: str, words: str) -> Person:
     """A person, by a line of the settings."""
     name, colon, rights = (part.strip() for part in words.rpartition(":"))
-    said = frozenset(own.strip() for own in rights.split(","))
+    given = frozenset(part.strip() for part in rights.split(","))
     # (a line that is indented goes on with the one above it: the rights of one would be those of another)
     is_line = all(letter.isprintable() or "\ud800" <= letter <= "\udfff" for letter in login + name)
-    is_tied = [own[1] for own in map(TIED.fullmatch, sorted(said)) if own] in ([HOLDER], [HOLDER, USER])
-    is_known = len(said) <= 2 and all(map(TIED.fullmatch, said)) if is_tied else said <= {*RIGHTS, ALL}
+    is_tied = [part[1] for part in map(TIED.fullmatch, sorted(given)) if part] in ([HOLDER], [HOLDER, USER])
+    is_known = len(given) <= 2 and all(map(TIED.fullmatch, given)) if is_tied else given <= {*RIGHTS, ALL}
     if not colon or not name or not is_known or SPEAKS_FOR in login or not is_line:
         some = f"some of {', '.join(RIGHTS)}, or {ALL}, or {HOLDER} NUMBER, {USER} NUMBER"
         expected = f"NAME: and behind it {some}, in a line that begins with the login"
         raise FileFault(path, 0, "".join(map(visible, login)), shown(words), expected)
-    return Person(login, name, (said - {ALL}) | OF_ALL if ALL in said else said)
+    return Person(login, name, (given - {ALL}) | OF_ALL if ALL in given else given)
 
 
 def commands_in(path: Path, parser: configparser.ConfigParser) -> tuple[str, ...]:

@@ -48,10 +48,10 @@ def release(office: Office, by: By, asked: Release) -> Released | Unproved | Ask
 def release_if_there(office: Office, by: By, filed: Event, why: str) -> Released | AskedFor | None:
     """Releases a day that was read before, if it was not released meanwhile. Raises WordsFault if it was undone."""
     with office.changing("release", by):
-        there = office.events.day_of(filed.date)
-        if there is None or there.line != filed.line:
+        filed_now = office.events.day_of(filed.date)
+        if filed_now is None or filed_now.line != filed.line:
             raise WordsFault(f"{filed.date} was undone meanwhile", "look once more")
-        return None if office.events.is_released(there) else made_known(office, there, why)
+        return None if office.events.is_released(filed_now) else made_known(office, filed_now, why)
 
 
 def made_known(office: Office, filed: Event, why: str) -> Released | AskedFor:
@@ -60,10 +60,10 @@ def made_known(office: Office, filed: Event, why: str) -> Released | AskedFor:
     if isinstance(approved, AskedFor):
         return approved
     # (others would know of something else)
-    for own in (filed.text, filed.report):
-        office.store.texts.get(own)
-    said = {"of": filed.id, "date": filed.date, "first": filed.first, "next": filed.next}
-    return Released(office.add(RELEASED, why=why, approved=approved, **said))
+    for text_sum in (filed.text, filed.report):
+        office.store.texts.get(text_sum)
+    of_day = {"of": filed.id, "date": filed.date, "first": filed.first, "next": filed.next}
+    return Released(office.add(RELEASED, why=why, approved=approved, **of_day))
 
 
 def doubt_of(filed: Event) -> str:

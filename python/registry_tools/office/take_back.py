@@ -38,13 +38,13 @@ def take_back(office: Office, by: By, asked: TakeBack) -> list[Item]:
 def chosen(handed_in: HandedIn, asked: TakeBack) -> list[Item]:
     """What is named."""
     parts = [*parts_of(handed_in, asked)]
-    there = {item.place: item for item in handed_in.items(*intake.KINDS)}
-    named = asked_places(handed_in, asked.places, there) if asked.places else [*there]
-    first = [place for place in named if there[place].part.kind == FIRST]
+    items = {item.place: item for item in handed_in.items(*intake.KINDS)}
+    named = asked_places(handed_in, asked.places, items) if asked.places else [*items]
+    first = [place for place in named if items[place].part.kind == FIRST]
     if first and asked.places:
         way = f"{voice.command('init')} puts in another text"
         raise WordsFault(f"place {first[0]} is an instruction of the first text", way)
-    found = [there[place] for place in named if place not in first and there[place].part in parts]
+    found = [items[place] for place in named if place not in first and items[place].part in parts]
     if not found:
         way = f"{voice.command('status')} shows what is handed in"
         raise WordsFault("nothing is left of what the words name", way)
@@ -58,8 +58,8 @@ def parts_of(handed_in: HandedIn, asked: TakeBack) -> Iterator[Part]:
         ("--handed-by", asked.handed_by, {own for part in handed_in.parts for own in (part.who, part.login) if own}),
     ):
         if name is not None and name not in names:
-            known = ", ".join(map(shown, sorted(names)))
-            expected = f"expected one of: {known}" if names else "and nothing is handed in"
+            names_told = ", ".join(map(shown, sorted(names)))
+            expected = f"expected one of: {names_told}" if names else "and nothing is handed in"
             raise WordsFault(f"{option}: found {shown(name)}; {expected}")
     for part in handed_in.parts:
         is_file = asked.file in (None, part.name)
@@ -67,7 +67,7 @@ def parts_of(handed_in: HandedIn, asked: TakeBack) -> Iterator[Part]:
             yield part
 
 
-def asked_places(handed_in: HandedIn, words_of_places: tuple[str, ...], there: dict[int, Item]) -> list[int]:
+def asked_places(handed_in: HandedIn, words_of_places: tuple[str, ...], items: dict[int, Item]) -> list[int]:
     """The places that words name, each once. Of a range, what is left there."""
     found: dict[int, None] = {}
     for word in words_of_places:
@@ -77,8 +77,8 @@ def asked_places(handed_in: HandedIn, words_of_places: tuple[str, ...], there: d
         first, last = int(match[1]), int(match[2] or match[1])
         if not 1 <= first <= last < handed_in.end:
             raise WordsFault(f"place {word}: there are places from 1 to {handed_in.end - 1}")
-        own = [place for place in range(first, last + 1) if place in there]
-        if not own:
+        left = [place for place in range(first, last + 1) if place in items]
+        if not left:
             raise WordsFault(f"place {word} was taken back before")
-        found |= dict.fromkeys(own)
+        found |= dict.fromkeys(left)
     return [*found]

@@ -86,10 +86,10 @@ def look(next_day: NextDay, day: DayText, names: Labels = Labels()) -> list[Look
     places = [*(None for _ in next_day.entered), *(item.place for item in next_day.new)]
     looked = []
     for place, instruction, logged in zip(places, day.instructions, rules.settle(day.day(), tells=True)):
-        own, said = instruction.row, in_words.instruction_in_words(instruction, names.account)
+        row, words = instruction.row, in_words.instruction_in_words(instruction, names.account)
         outcome = outcome_by_rules(logged, instruction)
         why = logged.passing.found if logged.passing and outcome != NOT_DUE else ""
-        looked.append(Looked(place, own, said, outcome, str(logged.due or ""), logged.line, why))
+        looked.append(Looked(place, row, words, outcome, str(logged.due or ""), logged.line, why))
     return looked
 
 
@@ -115,8 +115,8 @@ def whys(looked: list[Looked]) -> dict[str, str]:
 
 def looked_before(office: Office) -> set[str] | None:
     """The outcomes of the last look; None, if there was none since the last day."""
-    there = {line for (line,) in office.store.db.execute("SELECT line FROM looked")}
-    return there or None
+    lines = {line for (line,) in office.store.db.execute("SELECT line FROM looked")}
+    return lines or None
 
 
 def mark_new(office: Office, looked: list[Looked]) -> None:

@@ -17,6 +17,7 @@ from registry_tools.pages.html import Markup, Table, heading, paragraph
 from registry_tools.pages.month_standing import Way, compliance_parts, first_rows_of, no_way
 from registry_tools.pages.plan import figure
 from registry_tools.pages.settled import NO_DUE_DAY, OUTCOMES, long_date
+from registry_tools.pairs.compliance import Stand, standings
 from registry_tools.questions.days import Days
 from registry_tools.questions.month import DayOfMonth, month
 from registry_tools.second import rules
@@ -124,16 +125,18 @@ def hand_parts(days: list[DayOfMonth], names: Labels, most: int | None, way: Way
 
 
 def parts_of(
-    days: Days, office: Office | None, names: Labels, asked: Month, most: int | None = None, way: Way = no_way
-) -> tuple[str, str, list[Markup]]:
+    days: Days, office: Office | None, names: Labels, asked: Month, most: int | None = None, way: Way = no_way,
+    ask: Stand = standings,
+) -> tuple[str, str, list[Markup]]:  # fmt: skip
     """What stands on the page: its title, its first line, and its parts, with at most so many rows in a table. Of all
-    days only the last one is unpacked, with what waits behind it. Raises WordsFault if there is no day."""
+    days only the last one is unpacked, with what waits behind it; `ask` says how operators stand after it. Raises
+    WordsFault if there is no day."""
     found = month(days, asked.begin, asked.end)
     if not found:
         raise WordsFault("no day was settled in this time")
     last, due = days.day(found[-1].date), office.settings.due if office else DueDates()
     waiting = waiting_behind(office, last.date) if office else []
-    compliance = compliance_parts(last, asked.year, asked.deadline, due, names, most, way)
+    compliance = compliance_parts(last, asked.year, asked.deadline, due, names, most, way, ask)
     parts = [*compliance, *totals_parts(found, way), *refusal_parts(found)]
     parts += still_waiting(waiting, names, most) if office else []
     parts += hand_parts(found, names, most, way)

@@ -10,7 +10,7 @@ from registry_tools.pages.compliance import bar
 from registry_tools.pages.html import Markup, Table, facts, heading, paragraph
 from registry_tools.pages.settled import count_of
 from registry_tools.pairs.compliance import (
-    COMPLIANT, MISSING, NO_EMISSIONS, VERDICTS, Standing, last_year_over, standings,
+    COMPLIANT, MISSING, NO_EMISSIONS, VERDICTS, Stand, Standing, last_year_over, standings,
 )  # fmt: skip
 from registry_tools.store.past import PastDay
 from registry_tools.texts.in_words import grouped
@@ -25,17 +25,19 @@ def no_way(_target: str, words: object) -> object:
     return words
 
 
-def first_rows_of(table: Table, caption: str, rows: list[Any], most: int | None) -> Iterator[Markup]:
-    """A table of at most so many rows, and how many more there are."""
-    yield table.of(caption, rows[:most])
+def first_rows_of(
+    table: Table, caption: str, rows: list[Any], most: int | None, show: Callable[[Any], Any] = lambda row: row
+) -> Iterator[Markup]:
+    """A table of at most so many rows, and how many more there are. `show` makes the cells of those that are shown."""
+    yield table.of(caption, map(show, rows[:most]))
     if most is not None and len(rows) > most:
         yield paragraph(f"And {grouped(len(rows) - most)} more.")
 
 
 def compliance_parts(
     last: PastDay, named: int | None, deadline: datetime.date | None, due: DueDates, names: Labels, most: int | None,
-    way: Way,
-) -> Iterator[Markup]:
+    way: Way, ask: Stand = standings,
+) -> Iterator[Markup]:  # fmt: skip
     """How operators stand after the last day, for the named year or the last one that is over. Where emissions are
     missing nobody knows, and that is said. Without a named deadline it is that of the office. At most so many
     operators are shown."""
@@ -45,17 +47,18 @@ def compliance_parts(
     except WordsFault:
         yield paragraph("No year of a period is over.")
         return
-    rows = [*standings(last.day, last.report, year)]
+    rows = [*ask(last.day, last.report, year)]
     yield compliance_facts(rows, year, until_in_words(last.date, deadline or due.surrender_of(year)))
     unsettled = [row for row in rows if row.missing or row.verdict == NO_EMISSIONS]
     lacking = sorted(unsettled, key=lambda row: (-(row.missing or 0), row.account.number))
+
+    def cells(row: Standing) -> tuple[object, ...]:
+        of = row.account
+        account, holder = way(f"/accounts/{of.number}", names.account(of.number)), names.holder(of.holder)
+        return account, holder, bar(row), missing_of(row)
+
     if lacking:
-        own: list[tuple[object, ...]] = []
-        for row in lacking:
-            of = row.account
-            account, holder = way(f"/accounts/{of.number}", names.account(of.number)), names.holder(of.holder)
-            own.append((account, holder, bar(row), missing_of(row)))
-        yield from first_rows_of(MISSED, f"Who is missing how much for {year}", own, most)
+        yield from first_rows_of(MISSED, f"Who is missing how much for {year}", lacking, most, cells)
 
 
 def compliance_facts(rows: list[Standing], year: int, until: str) -> Markup:

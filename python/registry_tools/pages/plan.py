@@ -167,12 +167,12 @@ def busiest_parts(settled: Settled) -> list[Markup]:
     busiest = sorted(all_touched.items(), key=lambda touched: (-touched[1], touched[0]))[:BUSIEST]
     if not busiest:
         return []
-    said = "The busiest accounts, by how many instructions touch them"
+    title = "The busiest accounts, by how many instructions touch them"
     counts = ((account, (of, *(count[account, kind] for kind in OUTCOMES))) for account, of in busiest)
-    rows = [(settled.account_link(account), *map(grouped, own)) for account, own in counts]
+    rows = [(settled.account_link(account), *map(grouped, row)) for account, row in counts]
     columns = ["Account", "Instructions", "Done", "Refused", "Waiting"]
     numbers = table("The busiest accounts in numbers", columns, rows, right=columns[1:])
-    return [figure(said, bars(said, busiest)), numbers]
+    return [figure(title, bars(title, busiest)), numbers]
 
 
 def plan_parts(settled: Settled) -> list[Markup]:

@@ -52,19 +52,19 @@ class Sent:
     accounts: int
 
 
-def span_of(known: list[datetime.date], begin: datetime.date | None, end: datetime.date | None) -> list[datetime.date]:
+def span_of(days: list[datetime.date], begin: datetime.date | None, end: datetime.date | None) -> list[datetime.date]:
     """The first and the last day of the statements, among those that there are: without one that is named the last one
     that there is, and without a first one this one alone. Raises WordsFault if there is no such day."""
-    if not known:
+    if not days:
         raise WordsFault("there is no settled day")
-    last = end or known[-1]
+    last = end or days[-1]
     first = begin or last
     if first > last:
         raise WordsFault(f"{voice.option('from', first)} is later than {last}, the last day of the statements")
-    dates = [date for date in known if first <= date <= last]
-    if last not in known or not dates:
-        there = f"there are days from {known[0]} to {known[-1]}, and not this one"
-        raise WordsFault(f"{voice.option('day', last)}: {there}")
+    dates = [date for date in days if first <= date <= last]
+    if last not in days or not dates:
+        why = f"there are days from {days[0]} to {days[-1]}, and not this one"
+        raise WordsFault(f"{voice.option('day', last)}: {why}")
     return [dates[0], last]
 
 

@@ -7,8 +7,8 @@ from dataclasses import dataclass
 from registry_tools.calendars.deadlines import DueDates
 from registry_tools.office import close
 from registry_tools.pages.settled import long_date
-from registry_tools.pairs.compliance import standings
-from registry_tools.questions.due import OVERDUE, SURRENDER_FOR, Stand, deadlines
+from registry_tools.pairs.compliance import Stand, standings
+from registry_tools.questions.due import OVERDUE, SURRENDER_FOR, deadlines
 from registry_tools.texts.day_text import DayText
 from registry_tools.texts.in_words import grouped
 from registry_tools.texts.namebook import Labels

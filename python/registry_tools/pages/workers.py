@@ -110,8 +110,8 @@ def owned_parts(tasks: dict[int, Task], owned: list[list[Region]]) -> Iterator[M
             for worker, region in told
         )
         columns = ["Worker", "Region", "Records", "Instructions"]
-        said = "Who owned which region, whether it was stolen from another worker, and how long it took"
-        yield table(said, columns, regions, right=("Instructions",))
+        title = "Who owned which region, whether it was stolen from another worker, and how long it took"
+        yield table(title, columns, regions, right=("Instructions",))
     owner = owners_of([places_of(lane) for lane in owned])
     bundles = sorted(bundles_of(tasks), key=lambda bundle: (owner[bundle[0]], -len(bundle)))
     rows = ((name_of(owner[own[0]]), ", ".join(map(str, own)), grouped(len(own))) for own in bundles)

@@ -2,7 +2,7 @@
 --help` tells the columns and the verdicts."""
 import bisect
 import operator
-from collections.abc import Iterable, Iterator, Sequence
+from collections.abc import Callable, Iterable, Iterator, Sequence
 from dataclasses import dataclass
 
 from registry_tools import tables, voice
@@ -63,12 +63,16 @@ class Standing:
         return self.verdict
 
 
+# What tells how operators stand for a year.
+Stand = Callable[[DayText, Report, int], Iterable[Standing]]
+
+
 def last_year_over(head: rules.Day) -> int:
     """The last year that is over on the day, of any period."""
     over = years_over(head)
     if not over:
-        there = f"no year of a period is over on {head.date}"
-        raise WordsFault(there, f"name a year by {voice.option('year')}")
+        why = f"no year of a period is over on {head.date}"
+        raise WordsFault(why, f"name a year by {voice.option('year')}")
     return over[-1][-1]
 
 
@@ -83,8 +87,8 @@ def period_of(head: rules.Day, year: int) -> int:
     """The period of a year."""
     period = head.period_of(year)
     if period is None:
-        there = ", ".join(f"{first} to {last}" for first, last in head.periods)
-        raise WordsFault(f"{voice.option('year', year)} is in no period of the day: there is {there}")
+        periods = ", ".join(f"{first} to {last}" for first, last in head.periods)
+        raise WordsFault(f"{voice.option('year', year)} is in no period of the day: there is {periods}")
     return period
 
 
@@ -162,10 +166,10 @@ def cells(standing: Standing) -> list[Cell]:
 
 def counts(rows: Sequence[Standing]) -> list[str]:
     """The last lines: how many accounts have each verdict, and what is missing in all."""
-    of = {verdict: sum(own.verdict == verdict for own in rows) for verdict in VERDICTS}
-    missing = sum(own.missing or 0 for own in rows)
-    said = ", ".join(f"{count} {verdict}" for verdict, count in of.items() if count)
-    lines = [f"accounts {len(rows)}: {said or 'none'}"]
+    of = {verdict: sum(standing.verdict == verdict for standing in rows) for verdict in VERDICTS}
+    missing = sum(standing.missing or 0 for standing in rows)
+    counted = ", ".join(f"{count} {verdict}" for verdict, count in of.items() if count)
+    lines = [f"accounts {len(rows)}: {counted or 'none'}"]
     lines.append(f"{grouped(missing)} allowances are missing now, as far as there are figures")
     return [*lines, *closed_words(rows)]
 

@@ -45,7 +45,7 @@ def entry_in_effect(accounts: Accounts, i: rules.Instruction) -> datetime.date |
     return account.trusted.get(rules.known(i.other), "") if account else ""
 
 
-def log_rows(report: Report, known: Known) -> Iterator[LogCells]:
+def log_rows(report: Report, told: Known) -> Iterator[LogCells]:
     """The rows of a report, with what is known of its records."""
     accounts = Accounts(report.book)
     for logged in report.log:
@@ -55,13 +55,13 @@ def log_rows(report: Report, known: Known) -> Iterator[LogCells]:
         else:
             outcome = ("refused", logged.code, logged.name, "")
         is_entry = i.act == "trust" and logged.is_done
-        due = entry_in_effect(accounts, i) if is_entry else known.due.get(logged.record) or ""
-        found = known.found.get(logged.record, "")
+        due = entry_in_effect(accounts, i) if is_entry else told.due.get(logged.record) or ""
+        found = told.found.get(logged.record, "")
         advice = "" if logged.is_done else f"{found} {advice_for(logged.name)}".lstrip()
         start = (logged.record, logged.date, *i.fields[:4])
-        for own in act_columns(i):
-            named = (own.first, own.to, own.kind, own.amount, own.year)
-            yield (*start, *named, *outcome, due, advice, own.status, own.record_named)
+        for line in act_columns(i):
+            named = (line.first, line.to, line.kind, line.amount, line.year)
+            yield (*start, *named, *outcome, due, advice, line.status, line.record_named)
 
 
 def known_of(report: Report, days: list[DayText]) -> Known:

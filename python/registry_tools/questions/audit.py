@@ -168,29 +168,29 @@ def strange_days(found: Found) -> Iterator[FileFault]:
 # What is no difference, and has to be known.
 
 
-def engines_told(there: Events, named: str) -> Iterator[str]:
+def engines_told(history: Events, named: str) -> Iterator[str]:
     """How many days no proved engine has settled."""
-    days = [day for day in there.days if not settler.is_proved(day.engine)]
+    days = [day for day in history.days if not settler.is_proved(day.engine)]
     if days:
-        said = voice.either("settled by no proved engine, as far as the journal says", NO_ENGINE_NAMED)
-        yield f"{said}: {len(days)}, last {days[-1].date}"
-    rows = Counter(day.engine for day in there.days)
+        what = voice.either("settled by no proved engine, as far as the journal says", NO_ENGINE_NAMED)
+        yield f"{what}: {len(days)}, last {days[-1].date}"
+    rows = Counter(day.engine for day in history.days)
     doubts = {doubt: count for row, count in rows.items() if (doubt := settlement.doubt_of_sum(row, named))}
     yield from (f"settled by {doubt}: {count}" for doubt, count in doubts.items())
 
 
-def clock_told(there: Events) -> Iterator[str]:
+def clock_told(history: Events) -> Iterator[str]:
     """Where an event is earlier than the one before it. (What came from an older version lies before its upgrade.)"""
-    begun = there.all[0].at if there.all and there.all[0].what == events.UPGRADED else ""
-    for before, event in itertools.pairwise(own for own in there.all if own.at >= begun):
+    begun = history.all[0].at if history.all and history.all[0].what == events.UPGRADED else ""
+    for before, event in itertools.pairwise(event_since for event_since in history.all if event_since.at >= begun):
         if event.at < before.at:
             yield f"a clock went back: event {event.id} is of {event.at}, and the one before it of {before.at}"
 
 
-def people_told(there: Events) -> Iterator[str]:
+def people_told(history: Events) -> Iterator[str]:
     """Where office.ini came to name other people, or other commands of four eyes: whoever may write it may do that, and
     nobody would see it later."""
-    for before, event in itertools.pairwise(there.of_days()):
+    for before, event in itertools.pairwise(history.of_days()):
         if event.people != before.people:
             what = "other people or commands of four eyes" if before.people else "people, or commands of four eyes"
             named = what if event.people else "nobody any more"

@@ -118,13 +118,14 @@ class Changes:
 
     def place_of(self, block: Block) -> str:
         """Where an account stands so in a file of changes; nothing if it does not."""
-        own = next((known for known in self.blocks.get(block.number, []) if known.rows == block.rows), None)
-        if own is None:
+        same = (other for other in self.blocks.get(block.number, []) if other.rows == block.rows)
+        agreed = next(same, None)
+        if agreed is None:
             return ""
-        path = own.source.path
+        path = agreed.source.path
         if str(path) in self.unused:
             self.unused.remove(str(path))
-        return f"{path}:{own.line}"
+        return f"{path}:{agreed.line}"
 
     def in_words(self) -> list[str]:
         """A line for each file of which no day has anything."""

@@ -31,8 +31,8 @@ class Made:
 def make(days: Days, path: str) -> Made:
     """Makes the database, or one with the days that it lacks. Raises FileFault if it has other days."""
     try:
-        there, own = days_there(path), days.database.execute(DAYS_IN).fetchall()
-        compare(path, there, own, days)
+        days_before, days_now = days_there(path), days.database.execute(DAYS_IN).fetchall()
+        compare(path, days_before, days_now, days)
         with made_aside(path) as beside:
             if os.path.exists(path):
                 os.chmod(beside, stat.S_IMODE(os.stat(path).st_mode))
@@ -40,7 +40,7 @@ def make(days: Days, path: str) -> Made:
                 copy(days.database, target)
     except sqlite3.Error as error:
         raise of_file(path, f"this database cannot be written: {error}") from None
-    return Made(len(own), len(own) - len(there))
+    return Made(len(days_now), len(days_now) - len(days_before))
 
 
 def copy(database: sqlite3.Connection, target: sqlite3.Connection) -> None:
@@ -73,10 +73,10 @@ def days_there(path: str) -> list[tuple[str, str, str]]:
         return database.execute(DAYS_IN).fetchall()
 
 
-def compare(path: str, there: list[tuple[str, str, str]], days: list[tuple[str, str, str]], own: Days) -> None:
+def compare(path: str, days_before: list[tuple[str, str, str]], days: list[tuple[str, str, str]], asked: Days) -> None:
     """Ends the command if the database has another day than these."""
-    names = [pair.day for pair in own.pairs.values()]
-    for place, (date, *sums) in enumerate(there):
+    names = [pair.day for pair in asked.pairs.values()]
+    for place, (date, *sums) in enumerate(days_before):
         if place >= len(days):
             raise FileFault(path, 0, "days", f"a day {date}", "only the days that are named: take another FILE")
         if sums != [*days[place][1:]]:

@@ -89,16 +89,16 @@ def facts_after(side: Side) -> dict[Key, str]:
     """What a day has, by what it is, by account and name: its rules, the lists and balances of its accounts, and what
     came of its instructions."""
     date = {"date": str(side.date)}
-    found: dict[Key, str] = {(RULE, None, name): said for name, said in rules_of(side)}
-    for what, name, said, table in ROWS:
-        for account, field, value in side.days.database.execute(NOW.format(f"{name}, {said}", table), date):
+    found: dict[Key, str] = {(RULE, None, name): column for name, column in rules_of(side)}
+    for what, name, column, table in ROWS:
+        for account, field, value in side.days.database.execute(NOW.format(f"{name}, {column}", table), date):
             found[what, account, field] = str(value)
     times: Counter[str] = Counter()
-    for own in logged(side.days, ["i.date = :date"], date):
-        row = ",".join(own.instruction.fields)
+    for done in logged(side.days, ["i.date = :date"], date):
+        row = ",".join(done.instruction.fields)
         times[row] += 1
         name = row if times[row] == 1 else f"{row} ({times[row]})"
-        found[INSTRUCTION, own.instruction.first, name] = f"record {own.record}: {outcome_or_wait(own)}"
+        found[INSTRUCTION, done.instruction.first, name] = f"record {done.record}: {outcome_or_wait(done)}"
     return found
 
 

@@ -16,7 +16,7 @@ from registry_tools.office.office import Office
 from registry_tools.texts.namebook import Labels
 from registry_tools.pairs.next import about_date
 from registry_tools.office.waits import waits_of
-from registry_tools.pairs.compliance import NO_EMISSIONS, SETTLED, Standing, standings, years_over
+from registry_tools.pairs.compliance import NO_EMISSIONS, SETTLED, Stand, Standing, standings, years_over
 from registry_tools.second import rules
 from registry_tools.showing import Cell
 from registry_tools.texts.day_text import DayText
@@ -27,8 +27,6 @@ DEADLINE, OVERDUE, REVERSAL, LIST = "deadline", "overdue", "reversal ends", "lis
 WAITING, MISSED, CALENDAR = "waiting", "working day", "calendar ends"
 # What the holder of an account has to do of which so many allowances are missing for a year.
 SURRENDER_FOR = "Surrender {} allowances for {}"
-# What tells how operators stand for a year.
-Stand = Callable[[DayText, Report, int], Iterable[Standing]]
 # A year has deadlines in the next one: so those of these years, counted back from the last day, may still come.
 YEARS_BACK = (1, 0)
 
@@ -74,17 +72,17 @@ def due_until(office: Office, until: datetime.date) -> list[Due]:
     return with_calendar(office, until, of_days(office, *composing.last_pair(office)))
 
 
-def with_calendar(office: Office, until: datetime.date, known: list[Due]) -> list[Due]:
+def with_calendar(office: Office, until: datetime.date, day_dues: list[Due]) -> list[Due]:
     """The same, of what `of_days` tells and of the calendar."""
-    every = (own for found in (known, of_calendar(office)) for own in found if own.date <= until)
-    return sorted(every, key=lambda own: (own.date, own.what, own.account or 0))
+    every = (due for found in (day_dues, of_calendar(office)) for due in found if due.date <= until)
+    return sorted(every, key=lambda due: (due.date, due.what, due.account or 0))
 
 
-def of_days(office: Office, day: DayText, report: Report) -> list[Due]:
+def of_days(office: Office, day: DayText, report: Report, ask: Stand = standings) -> list[Due]:
     """What is due whatever is handed in: it is told by the last day, its report, what waits and the deadlines."""
     names = office.names()
-    known = deadlines(office.settings.due, day, report, names), of_rows(day, report, names), waiting(office, names)
-    return [own for found in known for own in found]
+    lists = deadlines(office.settings.due, day, report, names, ask), of_rows(day, report, names), waiting(office, names)
+    return [due for found in lists for due in found]
 
 
 def deadlines(

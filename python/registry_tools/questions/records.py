@@ -60,14 +60,14 @@ def log_row_of(days: Days, row: tuple[Any, ...]) -> LogRow:
     shares = days.database.execute(SHARES, (record,)).fetchall()
     if MOST_STORED in (amount, tonnes, *(part for _, part in shares)):
         return as_reported(days, datetime.date.fromisoformat(date), record)
-    known = {
+    values = {
         "FROM": first, "ACCOUNT": first, "TO": shares[0][0] if shares else first, "OTHER": other, "KIND": kind,
         "AMOUNT": amount, "NUMBER": number, "STATUS": status, "YEAR": year, "TONNES": tonnes,
     }  # fmt: skip
-    own = [known[name] for name in FIELDS[act]]
+    own_fields = [values[name] for name in FIELDS[act]]
     if act == DISTRIBUTE:
-        own[2:] = [field for share in shares for field in share]
-    fields = [proposed, proposer, "" if approver is None else approver, act, *own]
+        own_fields[2:] = [field for share in shares for field in share]
+    fields = [proposed, proposer, "" if approver is None else approver, act, *own_fields]
     instruction = rules.read_instruction([*map(str, fields)])
     name = CHECK_NAMES[code - 1] if code else ""
     when, outcome = datetime.date.fromisoformat(date), (bool(is_done), figure, code or 0, name)

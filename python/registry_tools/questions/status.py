@@ -67,11 +67,11 @@ def status(office: Office) -> Status:
 
 def faults_of_last(office: Office) -> Iterator[FileFault]:
     """What is wrong with the texts of the last day, and with what its rows were made of."""
-    last, there = office.last(), office.store.texts
+    last, texts = office.last(), office.store.texts
     if last is None:
         return
-    sources = (own.text for own in office.events.all if own.what == "source" and own.base == last.base)
-    yield from filter(None, map(there.fault_of, (last.text, last.report, last.waiting, last.waits, *sources)))
+    sources = (event.text for event in office.events.all if event.what == "source" and event.base == last.base)
+    yield from filter(None, map(texts.fault_of, (last.text, last.report, last.waiting, last.waits, *sources)))
 
 
 def rows_for_programs(office: Office, handed_in: HandedIn, faults: list[FileFault]) -> Iterator[list[Cell]]:

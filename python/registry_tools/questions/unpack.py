@@ -82,34 +82,34 @@ class Made:
 
 def files_of_day(office: Office, event: Event) -> Iterator[tuple[str, bytes]]:
     """The files of a settled day, with their contents."""
-    texts, there = office.store.texts, intake.for_a_day(office.store, event)
+    texts, handed_in = office.store.texts, intake.for_a_day(office.store, event)
     for column, name in FILES.items():
         own = getattr(event, column)
         if own:
             yield name, texts.get(own)
-    yield from ((f"{kind}.csv", content) for kind, content in there.contents().items())
-    rows = by_hand_rows(there)
+    yield from ((f"{kind}.csv", content) for kind, content in handed_in.contents().items())
+    rows = by_hand_rows(handed_in)
     yield BY_HAND, as_csv(TOLD, rows).encode("utf-8", "surrogateescape")
-    for number, part in enumerate(there.parts, 1):
+    for number, part in enumerate(handed_in.parts, 1):
         for own in part.sources:
             yield f"tables/{number:04}-{plain(own.name, own.kind)}", texts.get(own.text)
 
 
-def by_hand_rows(there: HandedIn) -> Iterator[tuple[str, ...]]:
+def by_hand_rows(handed_in: HandedIn) -> Iterator[tuple[str, ...]]:
     """Who changed what by hand for a day, and why: the rows of a change stand in one field."""
-    seconds = {own.place: own.login for own in there.approved}
-    for item in there.items(intake.CHANGES, intake.EDITS):
+    seconds = {approval.place: approval.login for approval in handed_in.approved}
+    for item in handed_in.items(intake.CHANGES, intake.EDITS):
         part = item.part
         yield part.at, part.who, part.login, seconds.get(part.start, ""), part.name, "\n".join(item.rows)
 
 
-def files_of_next(there: HandedIn) -> Iterator[tuple[str, bytes]]:
+def files_of_next(handed_in: HandedIn) -> Iterator[tuple[str, bytes]]:
     """What is handed in for the next day, as it came, with what it was made of."""
-    texts = there.store.texts
-    for number, part in enumerate(there.parts, 1):
+    texts = handed_in.store.texts
+    for number, part in enumerate(handed_in.parts, 1):
         yield f"{number:04}-{part.kind}.csv", texts.get(part.sum)
-        for own in part.sources:
-            yield f"{number:04}-{plain(own.name, own.kind)}", texts.get(own.text)
+        for source in part.sources:
+            yield f"{number:04}-{plain(source.name, source.kind)}", texts.get(source.text)
 
 
 def plain(name: str, kind: str) -> str:

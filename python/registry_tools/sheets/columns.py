@@ -55,12 +55,12 @@ def rows_of_account(said: dict[str, str]) -> Iterator[list[str]]:
             yield [tag, *row.split(BETWEEN_FIELDS)]
 
 
-def fields_of_instruction(said: dict[str, str]) -> list[tuple[str, str]]:
+def fields_of_instruction(cells: dict[str, str]) -> list[tuple[str, str]]:
     """The fields of a `do` row of a table, each with its column. Of a distribution, as many receivers as there are."""
-    act = said.get("act", "")
+    act = cells.get("act", "")
     columns = columns_of_act(act) if act in faults.ACT_WORDS else []
-    own = [(column, said.get(column, "")) for column in columns]
+    fields = [(column, cells.get(column, "")) for column in columns]
     if act == "distribute":
-        while len(own) > 4 and not own[-1][1] and not own[-2][1]:
-            own = own[:-2]
-    return [*((own, said.get(own, "")) for own in PROPOSAL), *own]
+        while len(fields) > 4 and not fields[-1][1] and not fields[-2][1]:
+            fields = fields[:-2]
+    return [*((fields, cells.get(fields, "")) for fields in PROPOSAL), *fields]

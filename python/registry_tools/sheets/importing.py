@@ -102,14 +102,14 @@ def told_of(table: Table, number: int, name: str, found: str, expected: str, wor
 def accounts_of(table: Table) -> Iterator[Made | FileFault]:
     """The rows of each account, or all that is wrong with it."""
     numbers: dict[str, int] = {}
-    for number, own in table.rows():
-        said = table.with_always(own)
-        first = numbers.setdefault(said.get("no", ""), number)
+    for number, cells in table.rows():
+        fields = table.with_always(cells)
+        first = numbers.setdefault(fields.get("no", ""), number)
         if first != number:
-            yield table.fault(number, "no", shown(said.get("no", "")), f"another account than in row {first + 1}")
+            yield table.fault(number, "no", shown(fields.get("no", "")), f"another account than in row {first + 1}")
             continue
-        rows = [with_dates(row, table.read_date) for row in columns.rows_of_account(said)]
-        wrong = [*wrong_rows(table, number, said, rows)]
+        rows = [with_dates(row, table.read_date) for row in columns.rows_of_account(fields)]
+        wrong = [*wrong_rows(table, number, fields, rows)]
         yield from wrong
         if not wrong:
             yield Made(number + 1, [",".join(row) for row in rows])

@@ -53,7 +53,7 @@ class Mapping:
         return self.words[column].get(as_looked_up(cell), cell) if column in self.words else cell
 
 
-def read(path: str, known: Iterable[str]) -> Mapping:
+def read(path: str, column_names: Iterable[str]) -> Mapping:
     """The mapping of a file. Raises FileFault at the first thing in it that is none."""
     parser = configparser.ConfigParser(
         interpolation=None, delimiters=("=",), comment_prefixes=("#",), default_section="", empty_lines_in_values=False
@@ -65,29 +65,29 @@ def read(path: str, known: Iterable[str]) -> Mapping:
         raise FileFault(path, 0, "", "a byte that is nothing in UTF-8", "a mapping that is saved in UTF-8") from None
     except configparser.Error as error:
         raise of_file(path, f"this is no mapping: {error}".replace("\n", " ")) from None
-    columns = [*known]
+    columns = [*column_names]
     sections = {name: dict(parser[name]) for name in parser.sections()}
-    for name, own in sections.items():
-        look_at(path, name, own, columns)
+    for name, section in sections.items():
+        look_at(path, name, section, columns)
     form = sections.pop(FORM, {})
     always, headings = sections.pop(ALWAYS, {}), sections.pop(COLUMNS, {})
     return Mapping(path, headings, sections, always, form.get(DATES), form.get(AMOUNTS))
 
 
-def look_at(path: str, name: str, own: dict[str, str], known: list[str]) -> None:
+def look_at(path: str, name: str, section: dict[str, str], columns: list[str]) -> None:
     """Ends the command if a section says something that no table has."""
     if name == FORM:
-        must_be_known(path, f"[{name}]", own, (DATES, AMOUNTS), f"{DATES} or {AMOUNTS}")
-        if AMOUNTS in own:
-            amount_reader(own[AMOUNTS], path)
+        must_be_known(path, f"[{name}]", section, (DATES, AMOUNTS), f"{DATES} or {AMOUNTS}")
+        if AMOUNTS in section:
+            amount_reader(section[AMOUNTS], path)
         return
-    if name not in (COLUMNS, ALWAYS, *known):
-        expected = f"[{COLUMNS}], [{ALWAYS}], [{FORM}], or the name of a column: {', '.join(known)}"
+    if name not in (COLUMNS, ALWAYS, *columns):
+        expected = f"[{COLUMNS}], [{ALWAYS}], [{FORM}], or the name of a column: {', '.join(columns)}"
         raise FileFault(path, 0, "section", shown(name), expected)
-    named = [*own.values()] if name == COLUMNS else own if name == ALWAYS else ()
-    allowed = [*known, *([""] if name == COLUMNS else [])]
+    named = [*section.values()] if name == COLUMNS else section if name == ALWAYS else ()
+    allowed = [*columns, *([""] if name == COLUMNS else [])]
     passed = ", or nothing behind =, which passes the column over" if name == COLUMNS else ""
-    must_be_known(path, f"[{name}]", named, allowed, f"one of {', '.join(known)}{passed}")
+    must_be_known(path, f"[{name}]", named, allowed, f"one of {', '.join(columns)}{passed}")
 
 
 def amount_reader(example: str | None, path: str) -> Callable[[str], str]:

@@ -51,8 +51,8 @@ def listed(sheet: Sheet, mapping: Mapping = Mapping()) -> Listed:
 
 def lacking(table: Table) -> Iterator[FileFault]:
     """What is wrong with a list that names no accounts, or says nothing of them."""
-    there = {*table.columns, *table.mapping.always}
-    if NUMBER not in there or not there & {*OTHERS}:
+    columns = {*table.columns, *table.mapping.always}
+    if NUMBER not in columns or not columns & {*OTHERS}:
         expected = f"a column {NUMBER}, and at least one of {', '.join(OTHERS)}"
         yield table.sheet.fault_at("row 1", "heading", shown(", ".join(table.headings)), expected)
 
@@ -60,16 +60,16 @@ def lacking(table: Table) -> Iterator[FileFault]:
 def accounts_in(table: Table) -> Iterator[tuple[int, Cells] | FileFault]:
     """The cells of each account, or what is wrong with them."""
     rows: dict[str, int] = {}
-    for row, own in table.rows():
-        said = table.with_always(own)
-        number = said.get(NUMBER, "")
+    for row, cells in table.rows():
+        fields = table.with_always(cells)
+        number = fields.get(NUMBER, "")
         if rows.setdefault(number, row) != row:
             yield table.fault(row, NUMBER, shown(number), f"another account than in row {rows[number] + 1}")
             continue
-        wrong = [*wrong_cells(table, row, said)]
+        wrong = [*wrong_cells(table, row, fields)]
         yield from wrong
         if not wrong:
-            yield int(number), said
+            yield int(number), fields
 
 
 def wrong_cells(table: Table, row: int, said: Cells) -> Iterator[FileFault]:

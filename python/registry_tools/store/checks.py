@@ -38,11 +38,11 @@ def unreadable(path: Path, error: object) -> FileFault:
 def of_head(db: sqlite3.Connection, path: Path) -> Faults:
     """What the file says it is."""
     # (with another journal, a copy of the file alone would lack what was done last)
-    own = ("application_id", file.APPLICATION), ("user_version", file.LAYOUT), ("journal_mode", "delete")
-    for name, expected in own:
-        there = db.execute(f"PRAGMA {name}").fetchone()[0]
-        if there != expected:
-            yield FileFault(path, 0, name, there, f"{expected}: {put_back()}")
+    told = ("application_id", file.APPLICATION), ("user_version", file.LAYOUT), ("journal_mode", "delete")
+    for name, expected in told:
+        found = db.execute(f"PRAGMA {name}").fetchone()[0]
+        if found != expected:
+            yield FileFault(path, 0, name, found, f"{expected}: {put_back()}")
 
 
 def of_pages(db: sqlite3.Connection, path: Path) -> Faults:
@@ -54,11 +54,11 @@ def of_pages(db: sqlite3.Connection, path: Path) -> Faults:
 
 def of_statements(db: sqlite3.Connection, path: Path) -> Faults:
     """The tables, indexes, views and triggers that are not what a new file has."""
-    expected, there = made_of(file.schema()), statements_in(db)
-    for name in sorted({*expected, *there}, key=repr):
-        own, wanted = there.get(name, ""), expected.get(name, "")
-        if own != wanted:
-            found, made = (shown(text) if text else f"no such {name[0]}" for text in (own, wanted))
+    expected, found_here = made_of(file.schema()), statements_in(db)
+    for name in sorted({*expected, *found_here}, key=repr):
+        statement, wanted = found_here.get(name, ""), expected.get(name, "")
+        if statement != wanted:
+            found, made = (shown(text) if text else f"no such {name[0]}" for text in (statement, wanted))
             yield FileFault(path, 0, " ".join(name), found, f"{made}: {put_back()}")
 
 

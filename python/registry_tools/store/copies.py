@@ -25,27 +25,27 @@ def backup(store: Store, path: str) -> Copy:
     """Makes a copy of the file, in place of an earlier copy if there is one. Raises FileFault if something else has
     that name, or if the copy is not what it has to be."""
     must_be_writable(path)
-    own = Path(path)
-    if own.exists():
-        must_be_earlier(store, own)
-    with file.telling(own), made_aside(own, MODE) as beside:
+    target_path = Path(path)
+    if target_path.exists():
+        must_be_earlier(store, target_path)
+    with file.telling(target_path), made_aside(target_path, MODE) as beside:
         with contextlib.closing(sqlite3.connect(beside)) as target:
             store.db.backup(target)
-        return copy_at(beside, own)
+        return copy_at(beside, target_path)
 
 
 def copy_at(place: Path, path: Path) -> Copy:
     """What the copy at a place has. A fault names the path that it is to have."""
     with contextlib.closing(file.connected(place)) as db:
-        there = events.read(db, path)
-        return Copy(len(there.of_days()), len(there.days), there.head)
+        history = events.read(db, path)
+        return Copy(len(history.of_days()), len(history.days), history.head)
 
 
 def must_be_earlier(store: Store, path: Path) -> None:
     """Ends the command if what has a name is no earlier state of this folder: then it would be lost."""
     file.look_beside(path)
     with contextlib.suppress(sqlite3.Error), contextlib.closing(file.connected(path)) as db:
-        line = file.last_line(db)
-        if line in {event.line for event in store.events.all}:
+        last_line = file.last_line(db)
+        if last_line in {event.line for event in store.events.all}:
             return
     raise FileFault(path, 0, "", "a file that is no earlier copy of this folder", EARLIER)

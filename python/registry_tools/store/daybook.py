@@ -44,12 +44,12 @@ def schema() -> str:
 
 def statements(script: str) -> Iterator[str]:
     """The statements of a script, one by one: so they can be part of a transaction."""
-    own = ""
+    statement = ""
     for part in script.split(";"):
-        own += f"{part};"
-        if part.strip() and sqlite3.complete_statement(own):
-            yield own
-            own = ""
+        statement += f"{part};"
+        if part.strip() and sqlite3.complete_statement(statement):
+            yield statement
+            statement = ""
 
 
 def in_memory() -> sqlite3.Connection:
@@ -72,10 +72,10 @@ def add_day(database: sqlite3.Connection, past_day: PastDay, sums: tuple[str, st
         "shares": (row for logged in log for row in shares_of(logged)),
         "log": map(log_of, log),
         "held": (row for logged in log if logged.is_done for row in held_of(logged)),
-        "totals": [(date, kind, *own) for kind, own in sums_told(report).items()],
+        "totals": [(date, kind, *table_rows) for kind, table_rows in sums_told(report).items()],
     }
-    for table, own in rows.items():
-        insert(database, f"{place}{table}", own)
+    for table, table_rows in rows.items():
+        insert(database, f"{place}{table}", table_rows)
     add_accounts(database, past_day, place)
     insert(database, f"{place}hand_changes", changes_by_hand(past_day))
 

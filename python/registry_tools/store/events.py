@@ -101,22 +101,22 @@ def value_of(name: str, value: object) -> object:
 
 def event_of(row: sqlite3.Row | tuple[object, ...]) -> Event:
     """The event of a row, with all columns in their order. Raises ValueError or TypeError if it can't be one."""
-    said = dict(zip(ALL, row))
-    for name, value in said.items():
+    columns = dict(zip(ALL, row))
+    for name, value in columns.items():
         if value is None and name not in ("date", "of", *MAY_LACK):
             raise TypeError(f"nothing as {name}")
         if value is not None and type(value) is not (int if name in NUMBERS else str):
             raise TypeError(f"{type(value).__name__} as {name}")
-    texts = {name: said[name] or "" for name in MAY_LACK}
-    date = NO_DATE if said["date"] is None else datetime.date.fromisoformat(str(said["date"]))
-    own: dict[str, Any] = {**said, **texts, "date": date}
-    return Event(**own)
+    texts = {name: columns[name] or "" for name in MAY_LACK}
+    date = NO_DATE if columns["date"] is None else datetime.date.fromisoformat(str(columns["date"]))
+    values: dict[str, Any] = {**columns, **texts, "date": date}
+    return Event(**values)
 
 
 class Events:
     """The events of a file, and what they say of its days."""
 
-    def __init__(self, path: Path, there: list[Event]) -> None:
+    def __init__(self, path: Path, events: list[Event]) -> None:
         self.path = path
         self.all: list[Event] = []
         # The days that count, by rising date.
@@ -126,7 +126,7 @@ class Events:
         self.changing: list[int] = []
         # What was approved or taken back of what was handed in, by the event that handed it in first.
         self.looked_at: dict[int, list[Event]] = {}
-        for event in there:
+        for event in events:
             self.append(event)
 
     def append(self, event: Event) -> None:
@@ -232,13 +232,13 @@ def does_not_follow(events: Events, event: Event) -> str:
         if last and event.first != last.next:
             return f"the first record {last.next}"
     elif event.what == UNDONE:
-        said = event.of, event.date, event.first, event.next
-        if last is None or said != (last.id, last.date, last.first, last.next):
+        told = event.of, event.date, event.first, event.next
+        if last is None or told != (last.id, last.date, last.first, last.next):
             return f"{last.date}, the last day" if last else "a day that was filed before"
         if events.is_released():
             return f"no undoing of {last.date}, which was released"
     elif event.what == RELEASED:
-        day = next((own for own in events.days if own.id == event.of), None)
+        day = next((filed for filed in events.days if filed.id == event.of), None)
         if day is None or (event.date, event.first, event.next) != (day.date, day.first, day.next):
             return "a day that is filed, with its records"
     return ""

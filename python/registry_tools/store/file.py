@@ -34,6 +34,9 @@ OTHERS_WRITE = stat.S_IWGRP | stat.S_IWOTH
 MOST_WAIT, SHORT_WAIT = 60_000, 200
 # The byte by which SQLite locks a file for those who write; and how the system tells of a lock (struct flock).
 RESERVED, FLOCK = 0x40000001, "hhqqi"
+# The files of which this process has asked that. They stay open: whoever closes one lets go of all locks that this
+# process has of it, also those of other threads.
+ASKED: dict[tuple[int, int], int] = {}
 # What an open file keeps in memory, in KiB.
 CACHE = 64 * 1024
 # So ends a journal of SQLite that names another one. (No command changes two files in one step.)
@@ -65,8 +68,8 @@ class Store:
 
     def kept(self, event: Event, column: str) -> KeptText:
         """A text that an event has in a column, by the name under which faults tell it."""
-        own = getattr(event, column)
-        return KeptText(voice.path(f"{self.path}/{event.date}/{FILES[column]}"), lambda: self.texts.get(own))
+        text_sum = getattr(event, column)
+        return KeptText(voice.path(f"{self.path}/{event.date}/{FILES[column]}"), lambda: self.texts.get(text_sum))
 
     def pair_of(self, event: Event) -> Pair:
         """The pair of a day that an event filed."""
@@ -142,14 +145,12 @@ class Store:
         self.events = Events(self.path, [own for own in self.events.all if own.id <= last_id(self.db)])
 
     def is_changing(self) -> bool:
-        """Whether another process has the lock of those who write. It is only asked for. (Behind that this process has
-        no lock of the file any more: so nobody asks in a transaction.)"""
-        asked = struct.pack(FLOCK, fcntl.F_WRLCK, os.SEEK_SET, RESERVED, 1, 0)
-        file = opening.open_file(self.path, os.O_RDONLY)
-        try:
-            return bool(struct.unpack(FLOCK, fcntl.fcntl(file, fcntl.F_GETLK, asked))[0] != fcntl.F_UNLCK)
-        finally:
-            os.close(file)
+        """Whether another process has the lock of those who write. It is only asked for."""
+        asked, about = struct.pack(FLOCK, fcntl.F_WRLCK, os.SEEK_SET, RESERVED, 1, 0), os.stat(self.path)
+        file = ASKED.get((about.st_dev, about.st_ino))
+        if file is None:
+            file = ASKED[about.st_dev, about.st_ino] = opening.open_file(self.path, os.O_RDONLY)
+        return bool(struct.unpack(FLOCK, fcntl.fcntl(file, fcntl.F_GETLK, asked))[0] != fcntl.F_UNLCK)
 
     def close(self) -> None:
         """Closes the file."""
@@ -287,8 +288,8 @@ def must_be_tables(db: sqlite3.Connection, path: Path) -> None:
 
 def schema() -> str:
     """The statements that make all tables. A file has them without their comments: so each letter of it counts."""
-    own = Path(__file__)
-    text = "".join(own.with_name(name).read_text(encoding="utf-8") for name in ("schema.sql", "daybook.sql"))
+    here = Path(__file__)
+    text = "".join(here.with_name(name).read_text(encoding="utf-8") for name in ("schema.sql", "daybook.sql"))
     return re.sub(r"\n?[ \t]*--[^\n]*", "", text)
 
 
@@ -310,8 +311,8 @@ def making(path: Path) -> Iterator[Store]:
             db.close()
 
 
-def has_changed(folder: Path, there: Events) -> bool:
+def has_changed(folder: Path, seen: Events) -> bool:
     """Whether a command has added events since they were read."""
     with contextlib.suppress(sqlite3.Error), contextlib.closing(connected(folder / NAME)) as db:
-        return last_line(db) != there.last_line
+        return last_line(db) != seen.last_line
     return False

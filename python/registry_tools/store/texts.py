@@ -52,52 +52,52 @@ class Texts:
 
     def put(self, content: bytes) -> str:
         """Keeps a text, and answers its sum. Raises FileFault if it is too long to be kept."""
-        own = sum_of(content)
-        if not self.db.execute("SELECT 1 FROM texts WHERE sum = ?", (own,)).fetchone():
+        text_sum = sum_of(content)
+        if not self.db.execute("SELECT 1 FROM texts WHERE sum = ?", (text_sum,)).fetchone():
             packed = zlib.compress(content, LEVEL)
             if len(packed) > MOST_PACKED:
                 raise of_file(self.path, f"a text of {len(content):,} bytes is longer than such a file can keep")
-            self.db.execute("INSERT INTO texts VALUES (?, ?, ?)", (own, len(content), packed))
-        return own
+            self.db.execute("INSERT INTO texts VALUES (?, ?, ?)", (text_sum, len(content), packed))
+        return text_sum
 
-    def get(self, own: str) -> bytes:
+    def get(self, text_sum: str) -> bytes:
         """The text with this sum. Raises FileFault if it is not there, or another one."""
-        return b"".join(self.pieces(own))
+        return b"".join(self.pieces(text_sum))
 
-    def pieces(self, own: str) -> Iterator[bytes]:
+    def pieces(self, text_sum: str) -> Iterator[bytes]:
         """The same piece by piece: what is wrong may be raised behind the last one."""
-        packed, size = self.packed(own)
-        unpacker, there, left = zlib.decompressobj(), hashlib.sha256(), size
+        packed, size = self.packed(text_sum)
+        unpacker, found, left = zlib.decompressobj(), hashlib.sha256(), size
         try:
             for place in range(0, len(packed), PIECE):
                 # (some bytes may unpack to a thousand times as many)
                 piece = unpacker.decompress(packed[place : place + PIECE])
-                there.update(piece)
+                found.update(piece)
                 left -= len(piece)
                 if left < 0:
                     break
                 yield piece
         except zlib.error as error:
-            raise self.fault(own, f"bytes that cannot be unpacked: {error}") from None
+            raise self.fault(text_sum, f"bytes that cannot be unpacked: {error}") from None
         if left:
-            raise self.fault(own, f"{'more' if left < 0 else 'fewer'} bytes than its size, {size}")
-        if there.hexdigest() != own:
-            raise self.fault(own, there.hexdigest())
+            raise self.fault(text_sum, f"{'more' if left < 0 else 'fewer'} bytes than its size, {size}")
+        if found.hexdigest() != text_sum:
+            raise self.fault(text_sum, found.hexdigest())
         if not unpacker.eof or unpacker.unused_data:
-            raise self.fault(own, "packed bytes that are cut, or go on behind the text")
+            raise self.fault(text_sum, "packed bytes that are cut, or go on behind the text")
 
-    def fault_of(self, own: str) -> FileFault | None:
+    def fault_of(self, text_sum: str) -> FileFault | None:
         """What is wrong with a text, if something is. (Its pieces are let go: that takes a third of the time.)"""
         try:
-            for _ in self.pieces(own):
+            for _ in self.pieces(text_sum):
                 pass
         except FileFault as fault:
             return fault
         return None
 
-    def lines(self, own: str) -> Iterator[str]:
+    def lines(self, text_sum: str) -> Iterator[str]:
         """The lines of a text: only what is asked for is unpacked. Nobody has compared their sum."""
-        unpacker, (left, _), rest = zlib.decompressobj(), self.packed(own), b""
+        unpacker, (left, _), rest = zlib.decompressobj(), self.packed(text_sum), b""
         try:
             while left and not unpacker.eof:
                 rest += unpacker.decompress(left, PIECE_OF_LINES)
@@ -105,28 +105,29 @@ class Texts:
                 *lines, rest = rest.split(b"\n")
                 yield from (line.decode("utf-8", "surrogateescape") for line in lines)
         except zlib.error as error:
-            raise self.fault(own, f"bytes that cannot be unpacked: {error}") from None
+            raise self.fault(text_sum, f"bytes that cannot be unpacked: {error}") from None
         if rest:
             yield rest.decode("utf-8", "surrogateescape")
 
-    def packed(self, own: str) -> tuple[bytes, int]:
+    def packed(self, text_sum: str) -> tuple[bytes, int]:
         """The packed bytes of a text, and how many it has unpacked."""
-        row = self.db.execute("SELECT packed, size FROM texts WHERE sum = ?", (own,)).fetchone()
+        row = self.db.execute("SELECT packed, size FROM texts WHERE sum = ?", (text_sum,)).fetchone()
         if row is None and self.below:
-            return self.below.packed(own)
+            return self.below.packed(text_sum)
         if row is None:
-            raise self.fault(own, "no such text")
+            raise self.fault(text_sum, "no such text")
         packed, size = row
         if not isinstance(packed, bytes) or not isinstance(size, int) or not 0 <= size <= MOST_TEXT:
-            raise self.fault(own, "no packed bytes with a size")
+            raise self.fault(text_sum, "no packed bytes with a size")
         return packed, size
 
-    def fault(self, own: str, found: str) -> FileFault:
+    def fault(self, text_sum: str, found: str) -> FileFault:
         """What is wrong with a text."""
-        return FileFault(self.path, 0, f"text {str(own)[:12]}", found, f"the text with the SHA-256 {own}: {put_back()}")
+        expected = f"the text with the SHA-256 {text_sum}: {put_back()}"
+        return FileFault(self.path, 0, f"text {str(text_sum)[:12]}", found, expected)
 
     def faults(self, without: Collection[str] = ()) -> Iterator[FileFault]:
         """What is wrong with all texts, but those that somebody looks at anyway."""
-        for (own,) in self.db.execute("SELECT sum FROM texts ORDER BY sum").fetchall():
-            if own not in without and (fault := self.fault_of(own)):
+        for (text_sum,) in self.db.execute("SELECT sum FROM texts ORDER BY sum").fetchall():
+            if text_sum not in without and (fault := self.fault_of(text_sum)):
                 yield fault

@@ -51,9 +51,9 @@ def differences_of_log(day: DayText, report: Report) -> Iterator[FileFault]:
             yield FileFault(report.path, logged.line, "RECORD", logged.record, why)
         if logged.date != head.date:
             yield FileFault(report.path, logged.line, "DATE", logged.date, f"{head.date}, the day of {day.path}")
-        own = day.instructions[place].fields
-        if logged.instruction.fields != own:
-            where = f"{shown(','.join(own))} as in {day.path}:{day.line_of_instruction(place)}"
+        instructions = day.instructions[place].fields
+        if logged.instruction.fields != instructions:
+            where = f"{shown(','.join(instructions))} as in {day.path}:{day.line_of_instruction(place)}"
             yield FileFault(report.path, logged.line, "log row", shown(",".join(logged.instruction.fields)), where)
     if len(report.log) < len(day.instructions):
         lacking = f"a log row for {day.path}:{day.line_of_instruction(len(report.log))}"
@@ -83,15 +83,15 @@ class Replay:
 
     def differences_of_log(self) -> Iterator[FileFault]:
         """Carries out each done row; in what it says something else than comes of it."""
-        own = self.day.instructions
-        rows = progress.over(self.report.log[: len(own)], f"following {self.report.path}", len(own))
-        for i, logged in zip(own, rows):
+        instructions = self.day.instructions
+        rows = progress.over(self.report.log[: len(instructions)], f"following {self.report.path}", len(instructions))
+        for i, logged in zip(instructions, rows):
             if not logged.is_done or logged.instruction.fields != i.fields:
                 continue
             check = refusal_of(self.now, i)
             if check:
-                said = f"'refused', as {check}, on the accounts as they then are"
-                yield FileFault(self.report.path, logged.line, "OUTCOME", "'done'", said)
+                refused = f"'refused', as {check}, on the accounts as they then are"
+                yield FileFault(self.report.path, logged.line, "OUTCOME", "'done'", refused)
                 continue
             figure = rules.carry_out(self.now, i, logged.record)
             if logged.figure != figure:
@@ -146,10 +146,10 @@ class Replay:
 def differences_of_totals(report: Report, sums: dict[str, Sums]) -> Iterator[FileFault]:
     """Where the totals are not the sums over all accounts."""
     for kind in rules.KINDS:
-        for name, there, expected in zip(("HELD", "SURRENDERED", "DELETED"), report.totals[kind], sums[kind]):
-            if there != expected:
-                line, said = report.totals_line(kind), f"{expected}, the sum over all accounts"
-                yield FileFault(report.path, line, name, there, said)
+        for name, found, expected in zip(("HELD", "SURRENDERED", "DELETED"), report.totals[kind], sums[kind]):
+            if found != expected:
+                line, wanted = report.totals_line(kind), f"{expected}, the sum over all accounts"
+                yield FileFault(report.path, line, name, found, wanted)
 
 
 def line_behind(text: WithBook, number: int) -> int:

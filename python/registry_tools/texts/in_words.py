@@ -75,8 +75,11 @@ def words_of(act: str, fields: Sequence[str], account: Callable[[str], str] = st
         giver, kind, *shares = fields
         parts = [f"{grouped(amount)} to {account(number)}" for number, amount in zip(shares[::2], shares[1::2])]
         return f"distribution of {kind} from {account(giver)}: {', '.join(parts)}"
-    said = zip(ACTS[act].fields.split(), fields, strict=True)
-    words = (grouped(own) if name in AMOUNTS else account(own) if name in OF_ACCOUNTS else own for name, own in said)
+    fields_named = zip(ACTS[act].fields.split(), fields, strict=True)
+    words = (
+        grouped(word) if name in AMOUNTS else account(word) if name in OF_ACCOUNTS else word
+        for name, word in fields_named
+    )
     return ACTS[act].sentence.format(*words)
 
 

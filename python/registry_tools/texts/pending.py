@@ -173,9 +173,9 @@ class StillWaiting:
 def still_waiting(file: PendingFile, day: DayText, report: Report, date: datetime.date) -> StillWaiting:
     """What of a pending file waits after a day, for the text of a date."""
     found = StillWaiting()
-    there = {tuple(i.fields) for i in day.instructions}
+    in_day = {tuple(i.fields) for i in day.instructions}
     must_not_be_later(file, report, date)
-    must_not_be_of_another_text(file, day, report, there)
+    must_not_be_of_another_text(file, day, report, in_day)
     entered_later = is_written_behind(file, day, report, date, found)
     for waits, _ in file.rows:
         # (those that were refused on the day itself are taken from its report)
@@ -183,7 +183,7 @@ def still_waiting(file: PendingFile, day: DayText, report: Report, date: datetim
             continue
         if waits.entered is None or (entered_later if file.made else waits.entered > day.head.date):
             found.waiting.append(Waiting(waits.record, waits.instruction, place=waits.place))
-        elif tuple(waits.instruction.fields) not in there:
+        elif tuple(waits.instruction.fields) not in in_day:
             made = file.made.next_record == day.head.next_record if file.made else waits.entered == day.head.date
             found.lost += [waits] if made else []
     return found
@@ -193,28 +193,28 @@ def must_not_be_later(file: PendingFile, report: Report, date: datetime.date) ->
     """Ends the command if a file was written behind a later day than the report is of."""
     later = f"the next one of {report.path}: this file belongs to a later day"
     if file.made and file.made.next_record > report.next_record:
-        known = f"at most {report.next_record}, {later}"
-        raise FileFault(file.path, 1, "NEXT", file.made.next_record, known)
+        expected = f"at most {report.next_record}, {later}"
+        raise FileFault(file.path, 1, "NEXT", file.made.next_record, expected)
     for waits, line in file.rows:
         if (waits.record or 0) >= report.next_record:
-            known = f"a record before {report.next_record}, {later}"
-            raise FileFault(file.path, line, "RECORD", waits.record, known)
+            expected = f"a record before {report.next_record}, {later}"
+            raise FileFault(file.path, line, "RECORD", waits.record, expected)
         if waits.entered and waits.entered > date and not file.made:
-            known = f"no day after {date}: this file belongs to a later day"
-            raise FileFault(file.path, line, "DATE", waits.entered, known)
+            expected = f"no day after {date}: this file belongs to a later day"
+            raise FileFault(file.path, line, "DATE", waits.entered, expected)
 
 
-def must_not_be_of_another_text(file: PendingFile, day: DayText, report: Report, there: set[tuple[str, ...]]) -> None:
+def must_not_be_of_another_text(file: PendingFile, day: DayText, report: Report, in_day: set[tuple[str, ...]]) -> None:
     """Ends the command if a file was written with a text in whose place that of the day was settled, as after a slip in
     the date: what one of them entered would be done twice, or not at all."""
     made, head = file.made, day.head
     if made is None or made.next_record != head.next_record or made.date == head.date:
         return
     is_behind = made.next_record == report.next_record and made.date > head.date
-    is_taken = any(waits.entered or tuple(waits.instruction.fields) in there for waits, _ in file.rows)
+    is_taken = any(waits.entered or tuple(waits.instruction.fields) in in_day for waits, _ in file.rows)
     if not is_behind and (made.date > head.date or is_taken):
-        known = f"{head.date}, the day of {day.path}: this file was written with another text of the records from"
-        raise FileFault(file.path, 1, "DATE", made.date, f"{known} {made.next_record}")
+        expected = f"{head.date}, the day of {day.path}: this file was written with another text of the records from"
+        raise FileFault(file.path, 1, "DATE", made.date, f"{expected} {made.next_record}")
 
 
 def is_written_behind(
