@@ -243,7 +243,7 @@ fn make_totals<T: Threads + Sync>(
     Ok(used_for(alloc, text, Some(closed)))
 }
 
-// Settles a day on its own book, by so many threads. One alone deals nothing out.
+// Settles a day on its own book, by so many threads. One alone goes through the batch, and deals nothing out.
 fn close_day<T: Threads + Sync>(
     rt: &T,
     alloc: Global,
@@ -258,23 +258,9 @@ fn close_day<T: Threads + Sync>(
     ensures replies { IfOk result (λ closed. closed.replies.items ≡ replies_of (day_of parts rules.now batch.now)) }
     ensures worked { IfOk result (λ closed. 1 < threads → WereSettledBy batch.now threads) }
 {
-    if threads == 1 {
-        return close_alone(alloc, parts, rules, batch);
+    if threads > 1 {
+        return settle_without_shifts(rt, alloc, parts, rules, batch, threads, &FreePlaces);
     }
-    settle_without_shifts(rt, alloc, parts, rules, batch, threads, &FreePlaces)
-}
-
-// The same by one thread, in the order of the batch.
-fn close_alone(
-    alloc: Global,
-    parts: Parts,
-    rules: &Rules,
-    batch: &Batch,
-) -> Result<ClosedParts, NoMemory>
-    requires { batch.now.base + 1 ≡ parts.next }
-    ensures book { IfOk result (λ closed. closed.parts ≡ book_after (day_of parts rules.now batch.now)) }
-    ensures replies { IfOk result (λ closed. closed.replies.items ≡ replies_of (day_of parts rules.now batch.now)) }
-{
     let Ok(book) = parts.into_book(alloc) else {
         return Err(NoMemory);
     };
