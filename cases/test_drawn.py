@@ -21,7 +21,9 @@ from compared import Expected, difference
 from drawn import arranged, damaged, days, spelled
 from harness import TOP, Said
 from opened import FORMS, written
+from registry_tools.errors import FileFault
 from registry_tools.second import faults, rules
+from registry_tools.texts.day_text import read_day
 from registry_tools.texts.report import read_report
 
 KEPT = TOP / "out/drawn"
@@ -90,6 +92,14 @@ def test_next_day_follows(rows: list[str]) -> None:
         chain = Said("chain", day, report, second, after)
         assert chain.status == 0, chain
         assert read_report(after).next_record >= read_report(report).next_record
+
+
+def test_book_of_two_periods_is_looked_at_again_for_one(tmp_path: Path) -> None:
+    """What is known of a text says nothing of one that has fewer periods, and the same accounts."""
+    day, other = TOP / "cases/periods/a-day-in-the-second-of-two-periods.csv", tmp_path / "other.csv"
+    other.write_text(day.read_text().replace("period,2025,2030\ncurrent,2\n", "current,1\n"))
+    with pytest.raises(FileFault, match="PERIOD: found '2'"):
+        read_day(other, read_day(day).known())
 
 
 @given(rows=days(), form=st.sampled_from(FORMS), data=st.data())

@@ -17,7 +17,9 @@ import pytest
 
 import registry_office as office
 from harness import PYTHON, TOP, Word, answer_of
-from offices import FIRST, changed, content_of
+from offices import FIRST, changed, content_of, without_triggers
+
+from registry_tools.store import events
 
 DATE = datetime.date(2025, 3, 31)
 FUNCTIONS = [name for name in office.__all__ if inspect.isfunction(getattr(office, name))]
@@ -164,6 +166,22 @@ def test_copy_and_questions_have_what_was_done(folder: office.Office, tmp_path: 
     assert held[0] == ["2025-03-31", 2, "general", 40, 0, 0]
 
 
+def test_copy_takes_the_place_of_an_earlier_one_alone(folder: office.Office, tmp_path: Path) -> None:
+    """A copy of another state, another folder's, or what is no copy, would be lost."""
+    copy, other, text = tmp_path / "copy.sqlite", tmp_path / "other", tmp_path / "text.sqlite"
+    office.make_folder(office.Init(other, str(FIRST)), "ben")
+    (other / "registry.sqlite").rename(tmp_path / "other.sqlite")
+    text.write_text("mine\n")
+    assert office.backup(folder, copy).days == 0
+    closed(folder)
+    assert office.backup(folder, copy).days == 1
+    for path in (tmp_path / "other.sqlite", text):
+        before = path.read_bytes()
+        with pytest.raises(office.FileFault, match="no earlier copy of this folder"):
+            office.backup(folder, path)
+        assert path.read_bytes() == before
+
+
 def test_other_login_is_refused(folder: office.Office) -> None:
     """A folder that others may write is no folder of this login alone."""
     folder.path.chmod(0o777)
@@ -175,6 +193,19 @@ def test_forged_line_is_refused(folder: office.Office) -> None:
     closed(folder)
     changed(folder.path, "UPDATE events SET who = 'eve' WHERE id = 2")
     with pytest.raises(office.FileFault, match="somebody changed"):
+        office.open_folder(folder.path)
+
+
+def test_event_behind_another_one_is_refused(folder: office.Office) -> None:
+    """An event that names another one before it, with a line that fits, so that only the chain tells it."""
+    closed(folder)
+    with without_triggers(folder.path) as db:
+        columns = ", ".join(("before", *events.COLUMNS))
+        last = db.execute(f"SELECT {columns} FROM events ORDER BY id DESC LIMIT 1").fetchone()
+        forged = "0" * 64, *last[1:]
+        change = "UPDATE events SET before = ?, line = ? WHERE before = ?"
+        db.execute(change, (forged[0], events.line_of(forged), last[0]))
+    with pytest.raises(office.FileFault, match=r"event 2, before: found '?0{64}"):
         office.open_folder(folder.path)
 
 

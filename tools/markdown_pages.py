@@ -7,7 +7,6 @@ from registry_tools.pages.html import Markup, joined, markup, tag
 
 HEADING = re.compile(r"(#{1,4}) (.+)")
 POINT = re.compile(r"(-|[0-9]+\.) +(.*)")
-RULE_OF_TABLE = re.compile(r"\|[-|: ]+\|")
 CELLS = re.compile(r"(?<!\\)\|")
 CODE_INDENT = "    "
 # Tables of more columns are stacked in narrow windows, and those of many have small letters.
