@@ -1,12 +1,4 @@
-"""The texts of a folder as plain files, with SHA256SUMS that `sha256sum -c` reads.
-
-  DATE/day.csv, report.csv, waiting.csv, waits.csv   a settled day, its report, what waited before it and waits then
-  DATE/do.csv, changes.csv, edits.csv, work.csv      what was handed in for it, as far as it counts
-  DATE/by-hand.csv                                   who changed what by hand, and why
-  DATE/tables/NUMBER-NAME                            tables and mappings of which rows were made
-  undone/EVENT-DATE/..                               the same of a day that was taken back
-  next/NUMBER-KIND.csv                               what is handed in for the next day, as it came
-  labels.csv, events.csv                             the names; and all that was done, one line an event
+"""The texts of a folder as plain files, with SHA256SUMS that `sha256sum -c` reads: cli/unpack.py tells which there are.
 """
 import datetime
 import re
