@@ -63,7 +63,11 @@ def number(name: str, low: int, high: int) -> Field:
             raise Fault("limit")
         return int(word)
 
-    return Field(name, read, f"a number from {low} to {high}, in plain digits", (range(low, high + 1),))
+    expected = f"a number from {low} to {high}, in plain digits"
+    if high < low:
+        # (as the period of a correction, if the day has one period)
+        expected = "no such row: there is no number that it may have here"
+    return Field(name, read, expected, (range(low, high + 1),))
 
 
 def signed(name: str, most: int, may_be_zero: bool = True) -> Field:
