@@ -3,6 +3,7 @@
 #![tactic(auto)]
 
 pub mod account;
+pub mod advice;
 pub mod base;
 pub mod book;
 pub mod claim;

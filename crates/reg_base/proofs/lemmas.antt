@@ -5,3 +5,5 @@ pub mod Among
 pub mod Rising
 -- A rising list by recursion, from its first number on.
 pub mod RisesFrom
+-- What is made of chunks, one behind the other, is made of the whole list.
+pub mod Chunks

@@ -17,3 +17,4 @@ pub mod Words
 pub mod Sentences
 pub mod Digits
 pub mod Workers
+pub mod Chunks

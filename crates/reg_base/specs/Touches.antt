@@ -18,6 +18,11 @@ is_touched directory is a = list_any (λ i. touches directory i a) is
 abbrev pub touches_at : DirectoryValue → List Instruction → ℕ → ℕ → Bool
 touches_at directory is a k = option_map_or (λ i. touches directory i a) (slice_get is k) false
 
+-- the instruction at this place, counted from 1, touches the account
+abbrev pub touches_place : DirectoryValue → List Instruction → ℕ → ℕ → Bool
+touches_place directory is a zero = false
+touches_place directory is a (suc k) = touches_at directory is a k
+
 -- the place, counted from 1, of the last of the first j instructions that touches the account, or 0 if none does
 abbrev pub last_toucher : DirectoryValue → List Instruction → ℕ → ℕ → ℕ
 last_toucher directory is a zero = 0

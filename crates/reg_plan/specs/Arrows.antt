@@ -1,19 +1,14 @@
 -- Arrows and openings: which instruction has to wait for which other, and at which account.
-use Rattle.std.specs.Prelude.{◌≡◌, ℕ, zero, suc, ◌<◌, Bool, true, false, ◌&&◌, ◌==◌, List, Contains, ◌↔◌}
+use Rattle.std.specs.Prelude.{◌≡◌, ℕ, ◌<◌, Bool, true, false, ◌&&◌, ◌==◌, List, Contains, ◌↔◌}
 use Rattle.std.specs.List.{IsDistinct}
 use Rattle.std.specs.List.Sorted.{IsSorted}
 use Rattle.std.specs.Ordering.{ordering_then, nat_cmp}
 use Rattle.std.specs.declared.cmp.Ordering.{Ordering}
 use Rattle.reg_base.specs.declared.instruction.Instruction.{Instruction}
 use Rattle.reg_base.specs.Directory.{DirectoryValue}
-use Rattle.reg_base.specs.Touches.{touches_at}
+pub use Rattle.reg_base.specs.Touches.{touches_place}
 use Rattle.reg_plan.specs.declared.arrow.Arrow.{Arrow}
 use Rattle.reg_plan.specs.declared.arrow.Opening.{Opening}
-
--- the instruction at this place, counted from 1, touches the account
-abbrev pub touches_place : DirectoryValue → List Instruction → ℕ → ℕ → Bool
-touches_place directory is a zero = false
-touches_place directory is a (suc k) = touches_at directory is a k
 
 -- an arrow: from an instruction to a later one, where both touch the account and none between them does
 pub record IsArrow (directory : DirectoryValue) (is : List Instruction) (arrow : Arrow) : Type 0 where

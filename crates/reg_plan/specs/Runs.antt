@@ -1,5 +1,5 @@
 -- What is found of instructions, run by run.
-use Rattle.std.specs.Prelude.{◌≡◌, ℕ, List}
+use Rattle.std.specs.Prelude.{◌≡◌, ℕ, ◌+◌, List}
 use Rattle.std.specs.List.Sorted.{IsPermutation}
 use Rattle.reg_base.specs.declared.instruction.Instruction.{Instruction}
 use Rattle.reg_base.specs.Directory.{DirectoryValue}
@@ -13,3 +13,7 @@ pub record IsFound (directory : DirectoryValue) (place : ℕ) (is : List Instruc
   pub lists : found.touched ≡ footprints directory is
   pub few : AreFew found.touched
   pub each : IsPermutation (touches_of place found.touched) found.touches.items
+
+-- the same, where the first has this index, counted from 0
+abbrev pub IsFoundFrom : DirectoryValue → ℕ → List Instruction → Found → Type 0
+IsFoundFrom directory index is found = IsFound directory (index + 1) is found

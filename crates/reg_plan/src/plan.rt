@@ -83,7 +83,7 @@ impl Plan {
         ensures { IfOk result (λ plan. IsPlan directory.now batch.now.instructions plan) }
     {
         let runs = count_runs(batch.len(), threads, least);
-        let found = find_by_runs(rt, alloc, directory, 1, batch.instructions(), runs)?;
+        let found = find_by_runs(rt, alloc, directory, batch.instructions(), runs)?;
         Plan::of_found(alloc, batch, directory, found)
     }
 

@@ -1,15 +1,15 @@
 //! What the instructions of a batch touch, found run by run, by several threads.
 
-ghost use Rattle.std.specs.Prelude.{◌≡◌, ◌⊎◌, ◌+◌, ◌*◌, ◌≤◌, ◌++◌, length, IfOk};
-ghost use Rattle.std.specs.Thread.{IsSync};
+ghost use Rattle.std.specs.Prelude.{◌≡◌, ◌⊎◌, ◌+◌, ◌*◌, ◌/◌, ◌%◌, ◌<◌, ◌≤◌, ◌++◌, min, length, vec_len, IfOk};
+ghost use Rattle.reg_base.specs.Chunks.{MadeOfChunks, UnlessOut};
 ghost use Rattle.reg_base.specs.declared.limits.TheConstants.{MOST_INSTRUCTIONS};
-ghost use Rattle.reg_plan.specs.Runs.{IsFound};
+ghost use Rattle.reg_plan.specs.Runs.{IsFound, IsFoundFrom};
 
 use crate::arrow::Touch;
 use crate::touched::Touched;
 use crate::touches::sorted_touches;
 use reg_base::{Directory, Instruction, NoMemory};
-use std::alloc::Global;
+use std::alloc::{AllocError, Global};
 use std::thread;
 use std::thread::Threads;
 
@@ -65,33 +65,49 @@ pub(crate) fn count_runs(instructions: u32, wanted: u32, least: u32) -> u32
     (instructions / least.max(1)).min(wanted).max(1)
 }
 
-/// The same as `find_run`, in so many runs, each in a thread of its own where one can be started. The last one is found
-/// by the calling thread.
+// What is found of the instructions of each run of so many, each in a thread of its own where one can be started.
+fn find_each_run<R: Threads + Sync>(
+    rt: &R,
+    alloc: Global,
+    directory: &Directory,
+    instructions: &[Instruction],
+    size: usize,
+) -> Result<Vec<Result<Found, NoMemory>>, AllocError>
+    requires size { 0 < size }
+    requires few { length instructions.now ≤ MOST_INSTRUCTIONS }
+    ensures len { IfOk result
+        (λ runs. vec_len runs ≡ length instructions.now / size + min 1 (length instructions.now % size)) }
+    ensures each { IfOk result
+        (λ runs. MadeOfChunks (UnlessOut (IsFoundFrom directory.now)) instructions.now size runs.items) }
+{
+    thread::map_chunks(
+        rt,
+        alloc,
+        instructions,
+        size,
+        &|start, run|
+            requires { start + length run.now ≤ MOST_INSTRUCTIONS }
+        { find_run(alloc, directory, start as u32 + 1, run) },
+    )
+}
+
+/// The same as `find_run` of all instructions of a batch, in at most so many runs, each found by a thread of its own
+/// where one can be started.
 pub(crate) fn find_by_runs<R: Threads + Sync>(
     rt: &R,
     alloc: Global,
     directory: &Directory,
-    first: u32,
     instructions: &[Instruction],
     runs: u32,
 ) -> Result<Found, NoMemory>
     requires runs { 1 ≤ runs }
-    requires few { first + length instructions.now ≤ MOST_INSTRUCTIONS + 1 }
-    ensures { IfOk result (IsFound directory.now first instructions.now) }
+    requires few { length instructions.now ≤ MOST_INSTRUCTIONS }
+    ensures { IfOk result (IsFound directory.now 1 instructions.now) }
 {
-    if runs == 1 {
-        return find_run(alloc, directory, first, instructions);
+    let size = instructions.len() / runs as usize + 1;
+    let mut all = find_run(alloc, directory, 1, &[])?;
+    for found in find_each_run(rt, alloc, directory, instructions, size)? {
+        all = append(all, found?)?;
     }
-    let count = instructions.len() as u32;
-    let size = (count / runs).min(count);
-    let (run, rest) = instructions.split_at(size as usize);
-    let (front, back) = thread::join(
-        rt,
-        move || find_run(alloc, directory, first, run),
-        move || -> Result<Found, NoMemory>
-            requires { IsSync R.row × (first + size + length rest.now ≤ MOST_INSTRUCTIONS + 1) × (2 ≤ runs) }
-            ensures { IfOk result (IsFound directory.entry.now (first + size) rest.entry.now) }
-        { find_by_runs(rt, alloc, directory, first + size, rest, runs - 1) },
-    );
-    append(front?, back?)
+    Ok(all)
 }

@@ -19,8 +19,8 @@ use Rattle.reg_book.specs.Settled.{committed}
 use Rattle.reg_book.specs.Laws.{StaysReady, NumbersStay, ClosingIsABook, CommittedIsClosing}
 use Rattle.reg_book.proofs.lemmas.Logs.{length-replies_of}
 use Rattle.reg_regions.specs.declared.instruction.Placed.{Placed}
-use Rattle.reg_regions.specs.declared.dealing.Dealing.{Dealing}
-use Rattle.reg_regions.specs.declared.dealing.Swap.{Swap}
+use Rattle.reg_advice.specs.declared.dealing.Dealing.{Dealing}
+use Rattle.reg_advice.specs.declared.dealing.Swap.{Swap}
 use Rattle.reg_regions.specs.Days.{RegionsAreADay}
 use Rattle.reg_regions.specs.Dealing.{AreDealt, AreInPlaces, AreTurned, IsAdmitted}
 use Rattle.reg_regions.specs.Laws.{reply_of}

@@ -10,7 +10,6 @@ mod AtHome
 mod Pieces
 mod Replying
 mod Marking
-mod Spread
 mod Sized
 mod Placing
 mod Endings

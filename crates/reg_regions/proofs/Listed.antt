@@ -18,7 +18,7 @@ use Rattle.reg_rules.specs.State.{State, Setting, numbers}
 use Rattle.reg_rules.specs.Laws.{StepLaws, IsReady}
 use Rattle.reg_rules.proofs.lemmas.Accounts.{length-numbers}
 use Rattle.reg_book.specs.Indexes.{index_lists}
-use Rattle.reg_regions.specs.declared.dealing.Deal.{Deal}
+use Rattle.reg_advice.specs.declared.dealing.Deal.{Deal}
 use Rattle.reg_regions.specs.declared.instruction.Placed.{Placed}
 use Rattle.reg_regions.specs.declared.running.settled_list.SettledList.{SettledList}
 use Rattle.reg_run.specs.declared.ran.Ran.{Ran}

@@ -8,7 +8,7 @@ use Rattle.std.proofs.lemmas.Grind.{flat_map-append}
 use Rattle.std.proofs.lemmas.List.{get_or-set_other, get_or-set_same, take_more}
 use Rattle.reg_facts.specs.Counting.{times, once, one_if}
 use Rattle.reg_facts.proofs.lemmas.Times.{once-yes, once-past, once-zero, times-append}
-use Rattle.reg_regions.specs.declared.dealing.Deal.{Deal}
+use Rattle.reg_advice.specs.declared.dealing.Deal.{Deal}
 use Rattle.reg_regions.specs.Homes.{AreMarked, set_mark, dealt_places}
 use Rattle.reg_regions.proofs.Membership.{contains_first, contains_later}
 

@@ -8,15 +8,15 @@ use Rattle.reg_account.specs.Account.{AccountValue}
 use Rattle.reg_facts.specs.Counting.{times, once}
 use Rattle.reg_rules.specs.declared.reply.Reply.{Reply}
 use Rattle.reg_rules.specs.State.{State, Setting}
-use Rattle.reg_regions.specs.declared.dealing.Deal.{Deal}
-use Rattle.reg_regions.specs.declared.dealing.Dealing.{Dealing}
+use Rattle.reg_advice.specs.declared.dealing.Deal.{Deal}
+use Rattle.reg_advice.specs.declared.dealing.Dealing.{Dealing}
 use Rattle.reg_regions.specs.declared.instruction.Placed.{Placed}
 use Rattle.reg_regions.specs.Days.{Run, all_opening, all_afterwards, all_replies, AreRuns}
 use Rattle.reg_regions.specs.Homes.{AreAllHome, dealt_places}
 use Rattle.reg_regions.specs.Lists.{joined_lists}
 use Rattle.reg_regions.specs.Settling.{places_in}
 use Rattle.reg_regions.specs.Swaps.{IsSwapWithin, exchanged, exchanged_back}
-use Rattle.reg_regions.specs.declared.dealing.Swap.{Swap}
+use Rattle.reg_advice.specs.declared.dealing.Swap.{Swap}
 
 -- the accounts were cut into regions, and this is what came of these, one after another
 pub record AreDealt (c : Setting) (b : BatchValue) (old new : State) (replies : List Placed) : Type 0 where

@@ -1,6 +1,6 @@
 -- Regions whose instructions have their accounts at hand, where their indexes say.
 use Rattle.std.specs.Prelude.{◌≡◌, ℕ, ◌-◌, ◌<◌, ◌≤◌, List, [], ◌∷◌, length, slice_get, slice_index}
-use Rattle.std.specs.Prelude.{zero, suc, All, Bool, true, false, slice_index_or}
+use Rattle.std.specs.Prelude.{zero, suc, All, Bool, IsTrue, true, false, drop, slice_index_or}
 use Rattle.std.specs.List.{flat_map}
 use Rattle.std.specs.Option.{option_map_or}
 use Rattle.std.specs.declared.vec.Vec.{Vec}
@@ -12,7 +12,7 @@ use Rattle.reg_facts.specs.Counting.{times, one_if}
 use Rattle.reg_account.specs.Account.{AccountValue}
 use Rattle.reg_rules.specs.State.{Setting, numbers}
 use Rattle.reg_book.specs.Indexes.{StandAt, index_lists}
-use Rattle.reg_regions.specs.declared.dealing.Deal.{Deal}
+use Rattle.reg_advice.specs.declared.dealing.Deal.{Deal}
 use Rattle.reg_regions.specs.Regions.{RiseAbove}
 
 -- the accounts that the instruction at this place touches
@@ -42,6 +42,17 @@ AreAllHome c b [] (d ∷ deals) = ⊥
 AreAllHome c b (l ∷ lists) [] = ⊥
 AreAllHome c b (l ∷ lists) (d ∷ deals) =
     AreHome c b (numbers l.items) d.places.items (index_lists d.indexes.items) × AreAllHome c b lists deals
+
+-- the same for lists whose regions have the first of these deals
+abbrev pub AreFirstHome : Setting → BatchValue → List (Vec AccountValue Global) → List Deal → Type 0
+AreFirstHome c b [] deals = Unit {0}
+AreFirstHome c b (l ∷ lists) [] = ⊥
+AreFirstHome c b (l ∷ lists) (d ∷ deals) =
+    AreHome c b (numbers l.items) d.places.items (index_lists d.indexes.items) × AreFirstHome c b lists deals
+
+-- if so, it holds for a run of lists and the deals from the index of its first list on
+abbrev pub AreHomeIfSo : Setting → BatchValue → List Deal → ℕ → List (Vec AccountValue Global) → Bool → Type 0
+AreHomeIfSo c b deals first lists so = IsTrue so → AreFirstHome c b lists (drop first deals)
 
 -- the places of all regions, one region after another
 abbrev pub dealt_places : List Deal → List ℕ

@@ -6,7 +6,7 @@ use Rattle.reg_base.specs.Batch.{BatchValue}
 use Rattle.reg_rules.specs.declared.reply.Reply.{Reply}
 use Rattle.reg_rules.specs.State.{State, Setting, numbers}
 use Rattle.reg_rules.specs.Laws.{AgreeOn, after_step, reply_to}
-use Rattle.reg_plan.specs.Arrows.{touches_place}
+use Rattle.reg_base.specs.Touches.{touches_place}
 use Rattle.reg_book.specs.Book.{directory_of}
 use Rattle.reg_book.specs.Day.{DayValue}
 

@@ -4,7 +4,7 @@ use Rattle.reg_base.specs.Batch.{BatchValue}
 use Rattle.reg_rules.specs.declared.reply.Reply.{Reply}
 use Rattle.reg_rules.specs.State.{State, Setting, numbers}
 use Rattle.reg_rules.specs.Laws.{IsReady}
-use Rattle.reg_plan.specs.Arrows.{touches_place}
+use Rattle.reg_base.specs.Touches.{touches_place}
 use Rattle.reg_regions.specs.declared.instruction.Placed.{Placed}
 use Rattle.reg_regions.specs.Regions.{accounts_after, accounts_after_all, reply_for, replies_for, RiseAbove}
 

@@ -14,7 +14,7 @@ use Rattle.reg_rules.specs.Laws.{IsReady}
 use Rattle.reg_book.specs.Indexes.{index_lists}
 use Rattle.reg_facts.specs.Counting.{total, times, once}
 pub use Rattle.reg_facts.specs.Lists.{first_numbers}
-use Rattle.reg_regions.specs.declared.dealing.Deal.{Deal}
+use Rattle.reg_advice.specs.declared.dealing.Deal.{Deal}
 use Rattle.reg_regions.specs.declared.running.settled_list.SettledList.{SettledList}
 use Rattle.reg_regions.specs.declared.running.shift.WorkShift.{WorkShift}
 use Rattle.reg_regions.specs.Homes.{AreHome}

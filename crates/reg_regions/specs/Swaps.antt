@@ -1,7 +1,7 @@
 -- Elements of a list swapped, one pair after another, and swapped back.
 use Rattle.std.specs.Prelude.{ℕ, ◌<◌, List, [], ◌∷◌}
 use Rattle.std.specs.List.{swap}
-use Rattle.reg_regions.specs.declared.dealing.Swap.{Swap}
+use Rattle.reg_advice.specs.declared.dealing.Swap.{Swap}
 
 -- a swap of two of the first n indexes
 pub record IsSwapWithin (n : ℕ) (s : Swap) : Type 0 where

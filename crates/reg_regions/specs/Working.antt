@@ -4,7 +4,7 @@ use Rattle.reg_base.specs.Batch.{BatchValue}
 use Rattle.reg_rules.specs.State.{State, Setting}
 use Rattle.reg_run.specs.declared.ran.Ran.{Ran}
 use Rattle.reg_run.specs.Running.{WereRun}
-use Rattle.reg_regions.specs.declared.dealing.Deal.{Deal}
+use Rattle.reg_advice.specs.declared.dealing.Deal.{Deal}
 use Rattle.reg_regions.specs.declared.running.settled_list.SettledList.{SettledList}
 use Rattle.reg_regions.specs.Dealing.{AreDealtOnce}
 use Rattle.reg_regions.specs.Stealing.{IsSettledList}

@@ -10,11 +10,10 @@ ghost use Rattle.reg_regions.specs.Swaps.{IsSwapWithin, exchanged};
 
 use crate::admission::accounts::are_all_home;
 use crate::admission::places::have_all_places;
-use crate::advice::numbers::short;
-use crate::dealing::{Deal, Dealing, Swap};
 use crate::exchange::{swap_all, swap_back};
-use crate::runs::runs_of;
 use reg_account::Account;
+use reg_advice::numbers::short;
+use reg_advice::{Deal, Dealing, Swap, runs_of};
 use reg_base::{Batch, NoMemory};
 use reg_rules::Setting;
 use std::alloc::Global;
@@ -65,7 +64,7 @@ fn admit_in<R: Threads + Sync>(
         return None;
     }
     let runs = runs_of(batch.len(), workers).min(short(lists.len()));
-    if !swap_home(rt, setting, batch, &dealing, lists, runs) {
+    if !swap_home(rt, alloc, setting, batch, &dealing, lists, runs) {
         return None;
     }
     Some(dealing)
@@ -115,6 +114,7 @@ fn is_within(swap: Swap, count: usize) -> bool
 // stand where they stood.
 fn swap_home<R: Threads + Sync>(
     rt: &R,
+    alloc: Global,
     setting: &Setting,
     batch: &Batch,
     dealing: &Dealing,
@@ -129,7 +129,7 @@ fn swap_home<R: Threads + Sync>(
     ensures stays { result ≡ false → joined_lists lists.new ≡ joined_lists lists.old }
 {
     swap_all(lists, &dealing.swaps);
-    if are_all_home(rt, setting, batch, lists, &dealing.deals, runs) {
+    if are_all_home(rt, alloc, setting, batch, lists, &dealing.deals, runs) {
         return true;
     }
     swap_back(lists, &dealing.swaps);

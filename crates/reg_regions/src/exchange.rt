@@ -6,7 +6,7 @@ ghost use Rattle.std.specs.List.{swap};
 ghost use Rattle.reg_regions.specs.Lists.{joined_lists, sizes_of};
 ghost use Rattle.reg_regions.specs.Swaps.{IsSwapWithin, exchanged, exchanged_back};
 
-use crate::dealing::Swap;
+use reg_advice::Swap;
 use std::mem;
 
 /// Swaps elements of lists, one pair after another. An index counts through all lists.

@@ -19,19 +19,17 @@
 #![tactic(auto)]
 
 mod admission;
-mod advice;
-mod dealing;
 mod exchange;
 mod gate;
 mod instruction;
 mod laws;
+mod lists;
 mod not_settled;
 mod running;
-mod runs;
 mod settlement;
 
 pub use gate::{FreePlaces, PlaceGate};
-pub use instruction::{Indexes, Placed};
+pub use instruction::Placed;
 pub use laws::{region_is_as_the_day, regions_are_a_day};
 pub use not_settled::{NotSettled, RegionsFault};
 pub use running::shift::{OwnedRegion, WorkShift};

@@ -13,7 +13,6 @@ ghost use Rattle.reg_regions.specs.Lists.{joined_lists, sizes_of};
 ghost use Rattle.reg_regions.specs.Working.{WereSettledBy};
 ghost use Rattle.reg_regions.specs.Stealing.{region_openings, IsGround, AreNotesOf, first_numbers, times_noted};
 
-use crate::dealing::Deal;
 use crate::gate::PlaceGate;
 use crate::instruction::Placed;
 use crate::running::region::{Cutting, ListRegion, make_regions};
@@ -22,6 +21,7 @@ use crate::running::settled_list::SettledList;
 use crate::running::settling::Settling;
 use crate::running::shift::Notes;
 use reg_account::Account;
+use reg_advice::Deal;
 use reg_base::{Batch, NoMemory};
 use reg_rules::{Reply, Setting, step_laws};
 use reg_run::{Outcome as Settled, Ran, run};

@@ -16,17 +16,16 @@ ghost use Rattle.reg_regions.specs.Stealing.{AreNotesOf};
 ghost use Rattle.reg_regions.specs.Working.{WereSettledBy};
 
 use crate::admission::admit;
-use crate::advice::advise;
-use crate::advice::lists::{cut_lists, join_lists};
-use crate::dealing::Dealing;
 use crate::exchange::swap_back;
 use crate::gate::PlaceGate;
 use crate::laws::regions_are_a_day;
+use crate::lists::{cut_lists, join_lists};
 use crate::not_settled::{NotSettled, RegionsFault};
 use crate::running::shift::{NoShift, Notes, WorkShift};
 use crate::running::whole::settle_whole;
 use crate::running::{Outcome, settle_lists};
 use reg_account::Account;
+use reg_advice::{Dealing, advise};
 use reg_base::{Batch, NoMemory, Rules};
 use reg_book::{
     ClosedParts, Parts, closing_is_a_book, settled_is_closing, stays_ready, untouched_stay,

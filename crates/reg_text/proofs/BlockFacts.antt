@@ -16,7 +16,8 @@ use Rattle.reg_base.specs.declared.directory.NoMemory.{NoMemory}
 use Rattle.reg_text.proofs.Names.{default_writer, text_of, account_block}
 use Rattle.reg_text.specs.declared.writing.pieces.Blocks.{Blocks}
 use Rattle.reg_text.specs.Pieces.{AreBlocksOf}
-use Rattle.reg_text.proofs.RunFacts.{RunsOf, IsSpelled, AreTexts}
+use Rattle.reg_base.proofs.lemmas.Chunks.{ChunksOf}
+use Rattle.reg_text.proofs.RunFacts.{IsSpelled, AreTexts}
 
 -- the text of the blocks of accounts
 abbrev pub blocks_text : List AccountValue → List ℕ
@@ -49,7 +50,7 @@ pub run-has_space : (totals : BothTotals) (blocks : Blocks) (all : List AccountV
     → length all ≤ MOST_ACCOUNTS
     → IsSpelled AreBlocksOf (λ first accounts. blocks_text accounts) (λ (b : Blocks). b.text)
     (AddUpWith totals all) whole size pieces (Ok blocks ∷ runs) → BothTotalsFit (both_added totals blocks.totals)
-unfolding RunsOf
+unfolding ChunksOf
 run-has_space totals blocks all whole size pieces runs fit few s =
     have_space (both_added totals blocks.totals) all (drop size s.others) fit few
     (add-run totals blocks all size s.first s.others s.left.0 s.holds)

@@ -17,7 +17,8 @@ use Rattle.reg_book.proofs.lemmas.TotalFacts.{AddUpWith, add-list, have_space}
 use Rattle.reg_text.specs.declared.writing.pieces.Blocks.{Blocks}
 use Rattle.reg_text.specs.Pieces.{AreBlocksOfLists}
 use Rattle.reg_text.proofs.BlockFacts.{blocks_text, blocks_text-append}
-use Rattle.reg_text.proofs.RunFacts.{RunsOf, IsSpelled, AreTexts}
+use Rattle.reg_base.proofs.lemmas.Chunks.{ChunksOf}
+use Rattle.reg_text.proofs.RunFacts.{IsSpelled, AreTexts}
 
 -- the accounts of lists are those of a run, and those of the lists behind it
 joined-run : (size : ℕ) (lists : List (Vec AccountValue Global))
@@ -52,7 +53,7 @@ pub run-of_lists-has_space : (totals : BothTotals) (blocks : Blocks) (all : List
     → IsSpelled AreBlocksOfLists (λ first lists. blocks_text (joined_lists lists)) (λ (b : Blocks). b.text)
     (λ others. AddUpWith totals all (joined_lists others)) whole size pieces (Ok blocks ∷ runs)
     → BothTotalsFit (both_added totals blocks.totals)
-unfolding RunsOf
+unfolding ChunksOf
 run-of_lists-has_space totals blocks all whole size pieces runs fit few s =
     have_space (both_added totals blocks.totals) all (joined_lists (drop size s.others)) fit few
     (add-run_of_lists totals blocks all size s.first s.others s.left.0 s.holds)

@@ -1,10 +1,8 @@
 -- A text in pieces, and what is spelled run by run.
-use Rattle.std.specs.Prelude.{◌≡◌, ℕ, ◌+◌, ◌*◌, ◌<◌, List, drop, length, Result, IfOk, Vec, slice_index_or}
+use Rattle.std.specs.Prelude.{◌≡◌, ℕ, ◌+◌, List, drop, Vec}
 use Rattle.std.specs.Global.{Global}
-use Rattle.std.specs.Fork.{slice_chunk}
 use Rattle.std.specs.List.{flat_map}
 use Rattle.reg_base.specs.Batch.{BatchValue}
-use Rattle.reg_base.specs.declared.directory.NoMemory.{NoMemory}
 use Rattle.reg_account.specs.Account.{AccountValue}
 use Rattle.reg_rules.specs.declared.reply.LogRow.{LogRow}
 use Rattle.reg_rules.specs.declared.reply.Reply.{Reply}
@@ -18,11 +16,6 @@ use Rattle.reg_text.specs.Sections.{account_block}
 -- the bytes of pieces one after another
 abbrev pub text_of_pieces : List (Vec ℕ Global) → List ℕ
 text_of_pieces pieces = flat_map (λ piece. piece.items) pieces
-
--- each of these is made of a run of so many values, of which the first has this index, unless memory ran out
-abbrev pub MadeAt : {X Y : Type 0} → (ℕ → List X → Y → Type 0) → List X → ℕ → List (Result Y NoMemory) → Type 0
-MadeAt {X} {Y} IsOf values size runs = (n : ℕ) (r : Result Y NoMemory) → n < length runs
-    → IfOk (slice_index_or runs n r) (IsOf (n * size) (slice_chunk values size n))
 
 -- the log rows of instructions from this index on, counted from 0, with these replies
 abbrev pub rows_after : BatchValue → ℕ → List Reply → List LogRow

@@ -1,26 +1,29 @@
 //! Whether the accounts of all regions stand where these say.
 
-ghost use Rattle.std.specs.Prelude.{◌≡◌, ◌<◌, ◌≤◌, All, IsTrue, true, length, slice_index};
+ghost use Rattle.std.specs.Prelude.{◌≡◌, ◌<◌, ◌≤◌, ◌+◌, ◌/◌, ◌%◌, All, IfOk, IsTrue, true, drop, min, length, vec_len};
+ghost use Rattle.std.specs.Prelude.{slice_index};
 ghost use Rattle.std.specs.Option.{option_map_or};
-ghost use Rattle.std.specs.Thread.{IsSync};
+ghost use Rattle.reg_base.specs.Chunks.{MadeOfChunks};
 ghost use Rattle.reg_base.specs.Directory.{is_known};
 ghost use Rattle.reg_rules.specs.State.{numbers};
 ghost use Rattle.reg_book.specs.Indexes.{StandAt, index_lists};
-ghost use Rattle.reg_regions.specs.Homes.{IsHome, AreHome, AreAllHome, AreKnown};
+ghost use Rattle.reg_regions.specs.Homes.{IsHome, AreHome, AreAllHome, AreFirstHome, AreHomeIfSo, AreKnown};
 
-use crate::dealing::Deal;
-use crate::instruction::Indexes;
 use reg_account::Account;
+use reg_advice::Deal;
 use reg_base::{AccountNo, Batch, Directory};
+use reg_book::Indexes;
 use reg_rules::Setting;
+use std::alloc::{AllocError, Global};
 use std::thread;
 use std::thread::Threads;
 
 /// Whether each of these lists is the region of its accounts: the accounts of the region's instructions stand where it
-/// says. The lists are looked at in so many runs, each but the last by a thread of its own where one can be started.
-#[cycle(looking)]
+/// says. The lists are looked at in at most so many runs, each by a thread of its own where one can be started. `false`
+/// if memory for what these answer ran out, too.
 pub(crate) fn are_all_home<R: Threads + Sync>(
     rt: &R,
+    alloc: Global,
     setting: &Setting,
     batch: &Batch,
     lists: &[Vec<Account>],
@@ -30,55 +33,66 @@ pub(crate) fn are_all_home<R: Threads + Sync>(
     requires known { All (λ l. AreKnown setting.now.directory (numbers l.items)) lists.now }
     ensures { IsTrue result → AreAllHome setting.now batch.now lists.now deals.now }
 {
-    if runs < 2 {
-        return are_listed_home(setting, batch, lists, deals);
+    if lists.len() != deals.len() {
+        return false;
     }
-    let size = (lists.len() / runs as usize).min(deals.len());
-    let (run, rest) = lists.split_at(size);
-    let (dealt, later) = deals.split_at(size);
-    are_both_home(rt, setting, batch, run, dealt, rest, later, runs)
+    let size = lists.len().div_ceil(runs.max(1) as usize).max(1);
+    let Ok(found) = look_at_each_run(rt, alloc, setting, batch, lists, deals, size) else {
+        return false;
+    };
+    for home in found {
+        if !home {
+            return false;
+        }
+    }
+    true
 }
 
-// The same of a run of lists, and of those behind it.
-#[cycle(looking)]
-fn are_both_home<R: Threads + Sync>(
+// Whether the lists of each run of so many are regions that begin with these deals.
+fn look_at_each_run<R: Threads + Sync>(
     rt: &R,
+    alloc: Global,
     setting: &Setting,
     batch: &Batch,
-    run: &[Vec<Account>],
-    dealt: &[Deal],
-    rest: &[Vec<Account>],
-    later: &[Deal],
-    runs: u32,
-) -> bool
-    requires runs { 2 ≤ runs }
-    requires run { All (λ l. AreKnown setting.now.directory (numbers l.items)) run.now }
-    requires rest { All (λ l. AreKnown setting.now.directory (numbers l.items)) rest.now }
-    ensures run { IsTrue result → AreAllHome setting.now batch.now run.now dealt.now }
-    ensures rest { IsTrue result → AreAllHome setting.now batch.now rest.now later.now }
+    lists: &[Vec<Account>],
+    deals: &[Deal],
+    size: usize,
+) -> Result<Vec<bool>, AllocError>
+    requires size { 0 < size }
+    requires known { All (λ l. AreKnown setting.now.directory (numbers l.items)) lists.now }
+    ensures len { IfOk result (λ runs. vec_len runs ≡ length lists.now / size + min 1 (length lists.now % size)) }
+    ensures each { IfOk result
+        (λ runs. MadeOfChunks (AreHomeIfSo setting.now batch.now deals.now) lists.now size runs.items) }
 {
-    let front = move || -> bool
-        requires { All (λ l. AreKnown setting.now.directory (numbers l.items)) run.now }
-        ensures { IsTrue result
-            → AreAllHome setting.entry.now batch.entry.now run.entry.now dealt.entry.now }
-    { are_listed_home(setting, batch, run, dealt) };
-    let back = move || -> bool
-        requires { IsSync R.row × (2 ≤ runs)
-            × All (λ l. AreKnown setting.now.directory (numbers l.items)) rest.now }
-        ensures { IsTrue result
-            → AreAllHome setting.entry.now batch.entry.now rest.entry.now later.entry.now }
-    { are_all_home(rt, setting, batch, rest, later, runs - 1) };
-    let (here, there) = thread::join(rt, front, back);
-    here && there
+    thread::map_chunks(
+        rt,
+        alloc,
+        lists,
+        size,
+        &|start, run|
+            requires { All (λ l. AreKnown setting.now.directory (numbers l.items)) run.now }
+            ensures { AreHomeIfSo setting.entry.now batch.entry.now deals.entry.now start run.now result }
+        { are_listed_home(setting, batch, run, behind(deals, start)) },
+    )
 }
 
-// The same by one thread.
+// The deals from an index on.
+fn behind(deals: &[Deal], start: usize) -> &[Deal]
+    ensures { result.now ≡ drop start deals.now }
+{
+    match deals.get(start..) {
+        Some(later) => later,
+        None => &[],
+    }
+}
+
+// Whether these lists are regions that begin with these deals.
 fn are_listed_home(setting: &Setting, batch: &Batch, lists: &[Vec<Account>], deals: &[Deal]) -> bool
     requires { All (λ l. AreKnown setting.now.directory (numbers l.items)) lists.now }
-    ensures { IsTrue result → AreAllHome setting.now batch.now lists.now deals.now }
+    ensures { IsTrue result → AreFirstHome setting.now batch.now lists.now deals.now }
 {
     match lists.split_first() {
-        None => deals.is_empty(),
+        None => true,
         Some((list, rest)) => match deals.split_first() {
             None => false,
             Some((deal, later)) => {

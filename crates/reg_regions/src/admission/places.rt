@@ -4,7 +4,7 @@ ghost use Rattle.std.specs.Prelude.{◌≡◌, ◌++◌, [], ◌∷◌, ℕ, Lis
 ghost use Rattle.reg_facts.specs.Counting.{times, once};
 ghost use Rattle.reg_regions.specs.Homes.{AreMarked, dealt_places};
 
-use crate::dealing::Deal;
+use reg_advice::Deal;
 use reg_base::NoMemory;
 use std::alloc::Global;
 

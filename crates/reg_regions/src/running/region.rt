@@ -4,8 +4,8 @@ ghost use Rattle.std.specs.Prelude.{◌≡◌, ◌≤◌, ◌-◌, ◌<◌, ◌^
 ghost use Rattle.reg_base.specs.Rising.{count_up};
 ghost use Rattle.reg_regions.specs.Stealing.{region_opening, region_openings};
 
-use crate::dealing::Deal;
 use reg_account::Account;
+use reg_advice::Deal;
 use reg_base::NoMemory;
 use reg_deques::Numbered;
 use std::alloc::Global;
@@ -16,7 +16,7 @@ use std::marker::{Brand, PhantomData};
 pub(crate) trait Cutting {
     ghost use Rattle.std.specs.Prelude.{List};
     ghost use Rattle.reg_rules.specs.State.{State};
-    ghost use Rattle.reg_regions.specs.declared.dealing.Deal.{Deal};
+    ghost use Rattle.reg_advice.specs.declared.dealing.Deal.{Deal};
 
     ghost openings: { List State };
 

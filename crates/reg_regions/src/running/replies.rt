@@ -4,8 +4,8 @@ ghost use Rattle.std.specs.Prelude.{IfOk};
 ghost use Rattle.reg_regions.specs.Dealing.{AreInPlaces, AreLeftOf};
 ghost use Rattle.reg_regions.specs.Lists.{joined_lists};
 
-use crate::advice::numbers::{number_or_zero, put_number, short};
 use crate::instruction::Placed;
+use reg_advice::numbers::{number_or_zero, put_number, short};
 use reg_base::NoMemory;
 use reg_rules::Reply;
 use std::alloc::Global;

@@ -9,9 +9,10 @@ ghost use Rattle.reg_regions.specs.Homes.{IsHome, AreHome};
 ghost use Rattle.reg_regions.specs.Settling.{IsCarriedOut, IsRun, kept, places_in};
 
 use crate::gate::PlaceGate;
-use crate::instruction::{Indexes, Placed};
+use crate::instruction::Placed;
 use reg_account::Account;
 use reg_base::{Batch, NoMemory, RecordNo};
+use reg_book::Indexes;
 use reg_rules::{Reply, Setting, execute_at, step_laws};
 use std::alloc::Global;
 

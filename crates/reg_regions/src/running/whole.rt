@@ -14,12 +14,12 @@ ghost use Rattle.reg_regions.specs.Lists.{joined_lists};
 ghost use Rattle.reg_regions.specs.Stealing.{AreNotesOf};
 ghost use Rattle.reg_regions.specs.Working.{WereSettledBy};
 
-use crate::advice::lists::join_all;
-use crate::dealing::Deal;
 use crate::gate::PlaceGate;
+use crate::lists::join_all;
 use crate::running::shift::Notes;
 use crate::running::{Outcome, settle_lists};
 use reg_account::Account;
+use reg_advice::Deal;
 use reg_base::{Batch, NoMemory};
 use reg_book::all_indexes;
 use reg_rules::Setting;

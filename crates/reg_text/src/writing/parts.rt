@@ -2,6 +2,7 @@
 
 ghost use Rattle.std.specs.Prelude.{◌≡◌, ◌<◌, ◌≤◌, ◌+◌, ◌/◌, ◌%◌, ◌++◌, All, min, IfOk, OnOk, vec_len, length};
 ghost use Rattle.std.specs.List.{flat_map};
+ghost use Rattle.reg_base.specs.Chunks.{MadeOfChunks, UnlessOut};
 ghost use Rattle.reg_base.specs.declared.limits.TheConstants.{MOST_ACCOUNTS};
 ghost use Rattle.reg_account.specs.Account.{IsAccount};
 ghost use Rattle.reg_book.specs.Day.{rows_replied};
@@ -10,7 +11,7 @@ ghost use Rattle.reg_book.specs.Totals.{totals_of};
 ghost use Rattle.reg_text.specs.Sections.{account_block};
 ghost use Rattle.reg_text.specs.Spelling.{book_rows};
 ghost use Rattle.reg_text.specs.Report.{text_of, report_rows};
-ghost use Rattle.reg_text.specs.Pieces.{text_of_pieces, MadeAt, AreBlocksOfLists};
+ghost use Rattle.reg_text.specs.Pieces.{text_of_pieces, AreBlocksOfLists};
 
 use crate::rooms::room_for_lists;
 use crate::spare::Spare;
@@ -54,7 +55,7 @@ fn spell_all_lists<R: Threads + Sync>(
     requires fit { All IsAccount (joined_lists lists.now) }
     requires few { length (joined_lists lists.now) ≤ MOST_ACCOUNTS }
     ensures len { IfOk result (λ runs. vec_len runs ≡ length lists.now / size + min 1 (length lists.now % size)) }
-    ensures each { IfOk result (λ runs. MadeAt AreBlocksOfLists lists.now size runs.items) }
+    ensures each { IfOk result (λ runs. MadeOfChunks (UnlessOut AreBlocksOfLists) lists.now size runs.items) }
 {
     thread::map_chunks(
         rt,

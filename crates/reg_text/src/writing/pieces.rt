@@ -5,6 +5,7 @@ ghost use Rattle.std.specs.Prelude.{◌≡◌, ◌<◌, ◌≤◌, ◌+◌, ◌/
 ghost use Rattle.std.specs.Prelude.{All, length};
 ghost use Rattle.std.specs.List.{flat_map};
 ghost use Rattle.csv.specs.Writing.{default_writer, row_text};
+ghost use Rattle.reg_base.specs.Chunks.{MadeOfChunks, UnlessOut};
 ghost use Rattle.reg_base.specs.declared.limits.TheConstants.{MOST_ACCOUNTS};
 ghost use Rattle.reg_account.specs.Account.{IsAccount};
 ghost use Rattle.reg_book.specs.Day.{rows_replied};
@@ -13,7 +14,7 @@ ghost use Rattle.reg_text.specs.Numbers.{number};
 ghost use Rattle.reg_text.specs.Sections.{account_block};
 ghost use Rattle.reg_text.specs.Report.{text_of, log_rows};
 ghost use Rattle.reg_text.specs.Totals.{rows_of_totals};
-ghost use Rattle.reg_text.specs.Pieces.{text_of_pieces, MadeAt, IsLogOf, AreBlocksOf};
+ghost use Rattle.reg_text.specs.Pieces.{text_of_pieces, IsLogOf, AreBlocksOf};
 
 use crate::rooms::{room_for_accounts, room_for_log};
 use crate::spare::Spare;
@@ -64,7 +65,7 @@ fn spell_logs<R: Threads + Sync>(
 ) -> Result<Vec<Result<Vec<u8>, NoMemory>>, AllocError>
     requires { 0 < size }
     ensures len { IfOk result (λ runs. vec_len runs ≡ length replies.now / size + min 1 (length replies.now % size)) }
-    ensures each { IfOk result (λ runs. MadeAt (IsLogOf batch.now) replies.now size runs.items) }
+    ensures each { IfOk result (λ runs. MadeOfChunks (UnlessOut (IsLogOf batch.now)) replies.now size runs.items) }
 {
     thread::map_chunks(
         rt,
@@ -99,7 +100,7 @@ fn spell_all_blocks<R: Threads + Sync>(
 ) -> Result<Vec<Result<Blocks, NoMemory>>, AllocError>
     requires { 0 < size }
     ensures len { IfOk result (λ runs. vec_len runs ≡ length accounts.now / size + min 1 (length accounts.now % size)) }
-    ensures each { IfOk result (λ runs. MadeAt AreBlocksOf accounts.now size runs.items) }
+    ensures each { IfOk result (λ runs. MadeOfChunks (UnlessOut AreBlocksOf) accounts.now size runs.items) }
 {
     thread::map_chunks(
         rt,

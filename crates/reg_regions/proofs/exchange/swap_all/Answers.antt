@@ -1,7 +1,7 @@
 use Rattle.std.proofs.Common.{◌≡◌, length, take, sym, ap, ◌∙◌, arith}
 use Rattle.std.proofs.lemmas.List.{take_more}
 use Rattle.reg_regions.specs.Lists.{joined_lists}
-use Rattle.reg_regions.specs.declared.dealing.Swap.{Swap}
+use Rattle.reg_advice.specs.declared.dealing.Swap.{Swap}
 use Rattle.reg_regions.proofs.Exchanged.{exchanged_more, length-exchanged}
 use Rattle.reg_regions.proofs.exchange.swap_all.Goals as goal
 

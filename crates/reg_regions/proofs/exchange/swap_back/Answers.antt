@@ -1,6 +1,6 @@
 use Rattle.std.proofs.Common.{◌≡◌, ◌<◌, ◌-◌, drop, length, ap, ◌∙◌, arith}
 use Rattle.reg_regions.specs.Lists.{joined_lists}
-use Rattle.reg_regions.specs.declared.dealing.Swap.{Swap}
+use Rattle.reg_advice.specs.declared.dealing.Swap.{Swap}
 use Rattle.reg_regions.proofs.Exchanged.{length-back}
 use Rattle.reg_regions.proofs.exchange.swap_back.Goals as goal
 

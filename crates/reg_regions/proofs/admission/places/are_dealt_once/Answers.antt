@@ -1,7 +1,7 @@
 use Rattle.std.proofs.Common.{◌≡◌, ◌+◌, ◌++◌, ℕ, List, length, take, true, sym, ap, subst, ◌∙◌, arith}
 use Rattle.std.proofs.lemmas.List.{take_all}
 use Rattle.reg_facts.specs.Counting.{times, once}
-use Rattle.reg_regions.specs.declared.dealing.Deal.{Deal}
+use Rattle.reg_advice.specs.declared.dealing.Deal.{Deal}
 use Rattle.reg_regions.specs.Homes.{AreMarked, dealt_places}
 use Rattle.reg_regions.proofs.Marking.{all-marked, one-more}
 use Rattle.reg_regions.proofs.admission.places.are_dealt_once.Goals as goal

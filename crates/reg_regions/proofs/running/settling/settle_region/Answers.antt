@@ -4,7 +4,7 @@ use Rattle.reg_facts.proofs.lemmas.Lists.{written_whole}
 use Rattle.reg_rules.specs.State.{State, numbers}
 use Rattle.reg_rules.specs.Laws.{IsReady}
 use Rattle.reg_book.specs.Indexes.{index_lists}
-use Rattle.reg_regions.specs.declared.dealing.Deal.{Deal}
+use Rattle.reg_advice.specs.declared.dealing.Deal.{Deal}
 use Rattle.reg_regions.specs.Homes.{AreHome}
 use Rattle.reg_regions.specs.Settling.{IsRun}
 use Rattle.reg_regions.proofs.running.settling.settle_region.Goals as goal

@@ -7,7 +7,9 @@ use Rattle.reg_text.specs.declared.writing.pieces.Blocks.{Blocks}
 use Rattle.reg_text.specs.Pieces.{AreBlocksOfLists, text_of_pieces}
 use Rattle.reg_text.proofs.BlockFacts.{blocks_text}
 use Rattle.reg_text.proofs.ListBlocks.{lists-texts, add-run_of_lists, run-of_lists-has_space}
-use Rattle.reg_text.proofs.RunFacts.{RunsOf, IsSpelled, runs-of, one-piece, all-pieces}
+use Rattle.reg_base.specs.Chunks.{UnlessOut}
+use Rattle.reg_base.proofs.lemmas.Chunks.{ChunksOf, chunks-of}
+use Rattle.reg_text.proofs.RunFacts.{IsSpelled, one-piece, all-pieces}
 use Rattle.reg_text.proofs.writing.parts.add_lists.Goals as goal
 
 pub loop-run-init : goal.loop-run-init
@@ -16,7 +18,7 @@ loop-run-init g c =
     let lists = c.args.lists.now in
     let size = c.lists_of_run-size.result in
     let runs = c.in_ok-run-items.run-items in
-    let left = runs-of AreBlocksOfLists size runs.items lists c.lists_of_run-size.ensures
+    let left = chunks-of (UnlessOut AreBlocksOfLists) size runs.items lists c.lists_of_run-size.ensures
     (sym runs.ok.0 ∙ c.in_ok-run-items.ensures.len) c.in_ok-run-items.ensures.each in
     record {
       next = record {};
@@ -24,8 +26,8 @@ loop-run-init g c =
       spelled = record {
         first = 0;
         others = lists;
-        left = subst (RunsOf AreBlocksOfLists 0 lists size) (sym c.into_iter-run-iterator.ensures.into_iter_gives.0)
-            left;
+        left = subst (ChunksOf (UnlessOut AreBlocksOfLists) 0 lists size)
+            (sym c.into_iter-run-iterator.ensures.into_iter_gives.0) left;
         holds = subst (λ (t : BothTotals). AddUpWith t all all) (sym c.none-totals.ensures) (add-none all);
         all = refl;
       };

@@ -5,7 +5,9 @@ use Rattle.reg_book.proofs.lemmas.TotalFacts.{AddUpWith, add-none, added-all}
 use Rattle.reg_text.specs.declared.writing.pieces.Blocks.{Blocks}
 use Rattle.reg_text.specs.Pieces.{AreBlocksOf, text_of_pieces}
 use Rattle.reg_text.proofs.BlockFacts.{blocks_text, blocks-texts, add-run, run-has_space}
-use Rattle.reg_text.proofs.RunFacts.{RunsOf, IsSpelled, runs-of, one-piece, all-pieces}
+use Rattle.reg_base.specs.Chunks.{UnlessOut}
+use Rattle.reg_base.proofs.lemmas.Chunks.{ChunksOf, chunks-of}
+use Rattle.reg_text.proofs.RunFacts.{IsSpelled, one-piece, all-pieces}
 use Rattle.reg_text.proofs.writing.pieces.add_accounts.Goals as goal
 
 pub loop-run-init : goal.loop-run-init
@@ -13,7 +15,7 @@ loop-run-init g c =
     let all = c.args.accounts.now in
     let size = c.run_size-size.result in
     let runs = c.in_ok-run-items.run-items in
-    let left = runs-of AreBlocksOf size runs.items all c.run_size-size.ensures
+    let left = chunks-of (UnlessOut AreBlocksOf) size runs.items all c.run_size-size.ensures
     (sym runs.ok.0 ∙ c.in_ok-run-items.ensures.len) c.in_ok-run-items.ensures.each in
     record {
       next = record {};
@@ -21,7 +23,8 @@ loop-run-init g c =
       spelled = record {
         first = 0;
         others = all;
-        left = subst (RunsOf AreBlocksOf 0 all size) (sym c.into_iter-run-iterator.ensures.into_iter_gives.0) left;
+        left = subst (ChunksOf (UnlessOut AreBlocksOf) 0 all size)
+            (sym c.into_iter-run-iterator.ensures.into_iter_gives.0) left;
         holds = subst (λ (t : BothTotals). AddUpWith t all all) (sym c.none-totals.ensures) (add-none all);
         all = refl;
       };

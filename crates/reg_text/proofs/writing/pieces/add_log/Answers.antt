@@ -5,7 +5,9 @@ use Rattle.reg_base.specs.declared.directory.NoMemory.{NoMemory}
 use Rattle.reg_rules.specs.declared.reply.Reply.{Reply}
 use Rattle.reg_text.specs.Pieces.{IsLogOf, rows_after, text_of_pieces}
 use Rattle.reg_text.proofs.EntryFacts.{log_text, log-texts, from-first}
-use Rattle.reg_text.proofs.RunFacts.{RunsOf, IsSpelled, runs-of, one-piece, all-pieces}
+use Rattle.reg_base.specs.Chunks.{UnlessOut}
+use Rattle.reg_base.proofs.lemmas.Chunks.{ChunksOf, chunks-of}
+use Rattle.reg_text.proofs.RunFacts.{IsSpelled, one-piece, all-pieces}
 use Rattle.reg_text.proofs.writing.pieces.add_log.Goals as goal
 
 pub loop-run-init : goal.loop-run-init
@@ -14,7 +16,7 @@ loop-run-init g c =
     let all = c.args.replies.now in
     let size = c.run_size-size.result in
     let runs = c.in_ok-run-items.run-items in
-    let left = runs-of (IsLogOf batch) size runs.items all c.run_size-size.ensures
+    let left = chunks-of (UnlessOut (IsLogOf batch)) size runs.items all c.run_size-size.ensures
     (sym runs.ok.0 ∙ c.in_ok-run-items.ensures.len) c.in_ok-run-items.ensures.each in
     record {
       next = record {};
@@ -22,8 +24,8 @@ loop-run-init g c =
       spelled = record {
         first = 0;
         others = all;
-        left = subst (RunsOf (IsLogOf batch) 0 all size) (sym c.into_iter-run-iterator.ensures.into_iter_gives.0)
-            left;
+        left = subst (ChunksOf (UnlessOut (IsLogOf batch)) 0 all size)
+            (sym c.into_iter-run-iterator.ensures.into_iter_gives.0) left;
         holds = tt;
         all = refl;
       };

@@ -1,0 +1,26 @@
+//! A use of `reg_advice`.
+
+ghost use Rattle.reg_base.specs.Rising.{IsRising};
+ghost use Rattle.reg_facts.specs.Lists.{joined_lists};
+ghost use Rattle.reg_rules.specs.State.{numbers};
+
+use reg_account::Account;
+use reg_advice::advise;
+use reg_base::Batch;
+use std::alloc::Global;
+use std::thread::Threads;
+
+/// Whether four workers are advised to deal this day out to regions.
+pub fn is_worth_dealing<R: Threads + Sync>(
+    rt: &R,
+    alloc: Global,
+    lists: &[Vec<Account>],
+    batch: &Batch,
+) -> bool
+    requires { IsRising (numbers (joined_lists lists.now)) }
+{
+    match advise(rt, alloc, lists, batch, 4) {
+        Some(dealing) => dealing.deals.len() > 1,
+        None => false,
+    }
+}
