@@ -9,6 +9,7 @@ from harness import TOP, Said, differs
 from offices import FILE, changed, events_of, handed_to, must_do, rows_of, text_of, told, unchanged
 
 from registry_tools.office import correct, folder, intake, people
+from registry_tools.texts.rows import text_of_rows
 
 WEEK, RULES = TOP / "examples" / "week", TOP / "tools" / "rules.py"
 MONDAY, TUESDAY, WEDNESDAY, THURSDAY = (f"2025-09-{day}" for day in (22, 23, 24, 25))
@@ -66,8 +67,8 @@ def texts_of(office: Path) -> dict[str, bytes]:
     found = {f"{date} {own}": text_of(office, date, own) for date in days for own in columns}
     with folder.at(office) as there:
         for event in there.events.days:
-            parts = intake.for_a_day(there.store, event).contents()
-            found.update({f"{event.date} {kind}": content for kind, content in parts.items()})
+            parts = intake.for_a_day(there.store, event).merged()
+            found.update({f"{event.date} {kind}": text_of_rows(part.rows) for kind, part in parts.items()})
     return found
 
 
@@ -177,7 +178,7 @@ def first_trials(work: Path) -> Iterator[Told]:
         stays = [(part.start, part.name) for part in filed.parts]
         yield "what stays", differs(stays, [(1, "monday.csv"), (7, "11.csv")])
         yield "who approved it", differs([(each.place, each.login) for each in filed.approved], [(7, f"{login}:eva")])
-        yield "its rows", differs(filed.contents()["do"].decode(), f"{row}11\n")
+        yield "its rows", differs(filed.merged()["do"].rows, [f"{row}11"])
     yield "the first day: audit", told(0, ["0 differences"], "audit", "--second", *own)
 
 

@@ -37,7 +37,7 @@ OF_HOLDER = (
     "/hand-in?account=100210&act=surrender&kind=general&amount=1&look=1",
     "/hand-in?account=100210&act=surrender&kind=x&amount=y&look=1",
 )  # fmt: skip
-WIDTHS = (1280, 320)
+WIDTHS = (1280, 640, 320)
 # Where rows are stacked although there is room; and the numbers that then stand far from the names of their columns.
 BETWEEN = 768
 FAR = (
@@ -260,7 +260,7 @@ def told(text: str, words: str) -> object:
 
 
 def looks(ana: Visitor) -> Iterator[tuple[str, object]]:
-    """Each page in two widths, light and dark, and on paper, with something that was handed in."""
+    """Each page in three widths, light and dark, and on paper, with something that was handed in."""
     SAVED.mkdir(parents=True, exist_ok=True)
     ana.open("/hand-in?act=assess")
     for name, word in (("proposer", "901"), ("approver", "902"), ("account", "100377"), ("year", "2024")):
@@ -275,7 +275,7 @@ def looks(ana: Visitor) -> Iterator[tuple[str, object]]:
 
 
 def pages_shown(ana: Visitor, paths: tuple[str, ...], of: str = "") -> Iterator[tuple[str, object]]:
-    """Pages in two widths, light and dark, and on paper."""
+    """Pages in three widths, light and dark, and on paper."""
     for path in paths:
         name = of + (re.sub(r"\W+", "-", path).strip("-") or "today")
         for width in WIDTHS:

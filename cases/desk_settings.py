@@ -1,4 +1,4 @@
-"""What whoever has all rights does at the desk beside a day's work: looks at office.ini and at what to write into it,
+"""What whoever has all rights does at the desk beside a day's work: looks at office.ini and asks for another one,
 corrects a settled day, takes copies along, and hands in a year's working days and tables of somebody else. For
 cases/run-desk."""
 from __future__ import annotations
@@ -59,6 +59,7 @@ def settings_page_trials(work: Path) -> Iterator[Told]:
     desk.served.jobs.begin = desks.at_once
     anna, bert, gerd = (person(desk, login) for login in ("anna", "bert", "gerd"))
     yield from office_trials(office, anna, gerd, person(desk, "cora"))
+    yield from ask_trials(office, anna, bert)
     yield from copy_trials(work, office, anna, gerd)
     yield from calendar_trials(office, anna)
     yield from year_of_instruction_trials(anna)
@@ -76,13 +77,16 @@ def office_trials(office: Path, anna: desks.Person, gerd: desks.Person, cora: de
     yield "who may do what", has(page, "Anna Berg", "holder 5501, user 5101", "waits for a second login", "rules.py")
     is_silent = str(office.parent) not in page.text and "/tools/" not in page.text
     yield "no path of the disk", None if is_silent else page.text
+    lines = "+ [due] surrender = 09-30\n+ [due] emissions = 03-31\n+ [due] lead = 40"
     for words, told in (
-        ("surrender=09-30&emissions=03-31&lead=40", "[due]\nsurrender = 09-30\nemissions = 03-31\nlead = 40"),
-        ("login=eva&name=Eva+Nord&rights=hand+in,+close", "[people]\neva = Eva Nord: hand in, close"),
-        ("login=eva&name=Eva&rights=holder+5501,+user+5101", "[people]\neva = Eva: holder 5501, user 5101"),
-        ("commands=change&commands=close", "[four eyes]\ncommands = change, close"),
+        ("surrender=09-30&emissions=03-31&lead=40", lines), ("login=bert", "- [people] bert = Bert Kohl: all\n"),
+        ("login=eva&name=Eva+Nord&rights=hand+in,+close", "+ [people] eva = Eva Nord: hand in, close"),
+        ("login=eva&name=Eva&rights=holder+5501,+user+5101", "+ [people] eva = Eva: holder 5501, user 5101"),
+        ("commands=change&commands=close", "- [four eyes] commands = change\n+ [four eyes] commands = change, close"),
+        ("line=[office]+name+=+Here", "+ [office] name = Here"),
     ):  # fmt: skip
-        yield f"what to write: {words}", has(anna.get(f"/office?{words}"), told)
+        page = anna.get(f"/office?{words}")
+        yield f"what it changes: {words}", has(page, told) or page.page.form("/office/ask") is None
     for words, told in (
         ("surrender=30.9.", "surrender: found"), ("lead=x", "lead: found 'x'"),
         ("login=eva&name=Eva&rights=sell", "eva: found"),
@@ -90,6 +94,10 @@ def office_trials(office: Path, anna: desks.Person, gerd: desks.Person, cora: de
         ("login=x%0Ay&name=Eva&rights=all", "each field has one line"),
         ("login=eva&name=a%0A[four+eyes]&rights=all", "each field has one line"),
         ("surrender=09-30%0Aprogram+=+/tmp/x", "each field has one line"),
+        ("line=[office]+program+=+/tmp/x", "[office] program: found '/tmp/x'; expected what stands"),
+        ("line=lead", "expected [SECTION] NAME"),
+        ("login=anna&name=Anna&rights=all,+proxy", "an editor of the owner alone changes it"),
+        ("commands=change", "nothing would be changed"),
     ):  # fmt: skip
         answer = anna.get(f"/office?{words}")
         yield f"what is no line: {words}", has(answer, told) or ("<pre>" in answer.text and answer.text)
@@ -99,9 +107,61 @@ def office_trials(office: Path, anna: desks.Person, gerd: desks.Person, cora: de
         for path in ("/office/db", "/office/backup"):
             fields = {"token": token(who), "once": "0" * 16}
             yield f"{path} for {name}", wrong(who.post(path, fields), 403)
+        for path in ("/office/ask", "/office/take-back"):
+            fields = {"token": token(who), "once": "0" * 16, "state": "0" * 64, "why": "x", "lines": "[due] lead = 3"}
+            yield f"{path} for {name}", wrong(who.post(path, fields), 403)
     yield "nothing was written", None if desks.bytes_of(office) == begun else "it was"
-    yield "no form writes it", [form.action for form in page.page.forms if form.method == "post"] != [
+    yield "no form writes it", [form.action for form in anna.get("/office").page.forms if form.method == "post"] != [
         "/office/backup", "/office/db"]  # fmt: skip
+
+
+def ask_trials(office: Path, anna: desks.Person, bert: desks.Person) -> Iterator[Told]:
+    """What one asks for at the page, another one approves at theirs; who asked does not, in any browser."""
+    ini, other = office / "office.ini", person(anna.desk, "anna")
+    begun, query = ini.read_text(), "/office?surrender=09-30&login=eva&name=Eva+Nord&rights=hand+in"
+    form = anna.get(query).page.form("/office/ask")
+    yield "its lines", differs(form.fields["lines"], "[due] surrender = 09-30\n[people] eva = Eva Nord: hand in")
+    sent = {**form.fields, "lines": form.fields["lines"].replace("\n", "\r\n"), "why": "she begins"}
+    asked = anna.follow(anna.post("/office/ask", sent))
+    told = "It is asked for, and waits for somebody else.", "+ [people] eva = Eva Nord: hand in", "Bert Kohl (bert)"
+    yield "it is asked for", has(asked, *told)
+    once = anna.follow(anna.post("/office/ask", sent))
+    yield "sent again, it is the same", differs(len(events_of(office, "id", what="asked")), 1) or has(once, *told)
+    yield "nothing is written yet", differs(ini.read_text(), begun)
+    for path in ("/", "/approve"):
+        yield f"{path} shows it", has(bert.get(path), "another office.ini", "she begins", "+ [due] surrender = 09-30")
+    for who, name in ((anna, "who asked"), (other, "who asked, in another browser")):
+        yield f"{name} approves", has(approve(who), "asked for it: another login approves it", "Nothing was done")
+    number = bert.get("/approve").page.form("/approve").fields["day"]
+    forged = {**bert.get("/approve").page.form("/approve").fields, "token": token(anna), "who": "bert"}
+    yield "by another name", has(anna.follow(anna.post("/approve", forged)), "another login approves it")
+    for word in ("0", "x", "", "99999999999", f"{number} 1"):
+        answer = bert.follow(
+            bert.post("/approve", {**forged, "token": token(bert), "day": word, "once": "%016x" % len(word)})
+        )
+        yield f"event {word!r}", None if "it is written" not in answer.text and answer.status in (200, 400) else answer
+    yield "still nothing is written", differs(ini.read_text(), begun)
+    yield "another login approves", has(approve(bert), "Done.", "it is written")
+    yield "it lies there", [
+        line for line in ("surrender = 09-30", "eva = Eva Nord: hand in") if line not in ini.read_text()
+    ]
+    yield "it counts at once", has(person(anna.desk, "eva").get("/hand-in"), "Hand in")
+    yield "the page says it", has(anna.get("/office"), "Eva Nord", "09-30")
+    yield "the journal keeps it", has(
+        anna.get("/journal"), "she begins", "approved by Bert Kohl (bert)", "+ [due] surrender"
+    )
+    anna.follow(anna.post("/office/ask", {**anna.get("/office?lead=9").page.form("/office/ask").fields, "why": "x"}))
+    back = anna.yes(anna.get("/office"), "/office/take-back", why="a slip")
+    yield "it is taken back", has(back, "Done.", "taken back: event")
+    yield "and waits no longer", "lead = 9" in bert.get("/approve").text
+    late = anna.get("/office?lead=9").page.form("/office/ask").fields
+    ini.write_text(ini.read_text().replace("anna = Anna Berg: all", "anna = Anna Berg: look"))
+    yield "who may no longer", wrong(anna.post("/office/ask", {**late, "why": "x"}), 403)
+    ini.write_text(begun)
+
+
+def approve(who: desks.Person) -> desks.Answer:
+    return who.yes(who.get("/approve"), "/approve")
 
 
 def token(who: desks.Person) -> str:

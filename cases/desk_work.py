@@ -112,10 +112,10 @@ def kept_trials(work: Path) -> Iterator[Told]:
     links = Links(Kept(socket))
     (key, _), (ended, _) = links.make("anna"), links.make("bert")
     links.end("bert")
-    again, name = Links(Kept(socket)), next(iter(links.there))
+    again, name = Links(Kept(socket)), next(iter(links.links))
     yield "a link counts", None if again.counts(name, "anna") else "it does not"
     yield "for its login alone", again.counts(name, "bert") and "it does for another one"
-    yield "one that was ended does not", differs([*again.there], [name])
+    yield "one that was ended does not", differs([*again.links], [name])
     assert again.kept is not None and links.kept is not None
     signed = links.kept.key
     yield "cookies are signed by the same", differs(again.kept.key, signed)

@@ -46,6 +46,7 @@ def by_words(place: str, files: Path, other: str) -> Iterator[tuple[list[object]
     yield ["take-back", "--handed-by", other, *WHY], NO_CHANGE
     yield ["approve", place], NO_CHANGE
     yield ["approve", "close", "--date", NEXT], "nobody asked for close"
+    yield ["settings", "[due] lead = 3", *WHY], "may hand in, and not all"
     yield ["hand-in", own, "--for", other], "the system says for whom"
 
 

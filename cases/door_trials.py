@@ -227,7 +227,7 @@ def link_trials(mock: Any) -> Told:
     name = link_name(key)
     yield "a link counts", differs(links.counts(name, "anna"), True)
     yield "for nobody else", links.counts(name, "bert")
-    yield "its key is not kept", key in repr(links.there)
+    yield "its key is not kept", key in repr(links.links)
     with mock.patch("time.time", return_value=until + 1):
         yield "it ends after some hours", links.counts(name, "anna")
     more = [links.make("anna")[0] for _ in range(MOST_LINKS)]
@@ -235,7 +235,7 @@ def link_trials(mock: Any) -> Told:
     yield "and no other", [own for own in more if not links.counts(link_name(own), "anna")]
     links.make("bert")
     yield "all of one login end", differs(links.end("anna"), MOST_LINKS)
-    yield "and none of others", differs(len(links.there), 1)
+    yield "and none of others", differs(len(links.links), 1)
 
 
 # People.
@@ -265,6 +265,7 @@ def all_trials(work: Path, leave_out: Callable[[str, LeftOut], None], many: int)
             yield from odd_trials(path, anna, bert, proxy, desk)
             yield from in_its_place_trials(anna, work)
             yield from two_trials(path, office, anna, bert, proxy)
+            yield from settings_trials(path, office, work, (anna, bert, proxy, hands))
 
             def browsers() -> list[Visitor]:
                 """A browser of anna's by a link, and one by a proxy."""
@@ -586,6 +587,41 @@ def two_trials(path: Path, office: Path, anna: Login, bert: Login, proxy: Login)
     theirs.get("/")
     told = theirs.yes(theirs.get("/"), "/approve")
     yield "approved by somebody else through it", None if "approved: place" in told.text else told.text[-900:]
+
+
+def settings_trials(path: Path, office: Path, work: Path, people: Sequence[Login]) -> Told:
+    """Another office.ini, which one asks for: they approve it in no way, a second one does, and it counts at once."""
+    anna, bert, proxy, hands = people
+    ini, own, new = office / "office.ini", door_commands.Giver(anna, path), work / "new.ini"
+    kept, why = ini.read_text(), ("--why", "x")
+    new.write_text(kept.replace("Ida Voss: hand in", "Ida Voss: hand in, change"))
+    given = door_commands.Giver(hands, path).gives("settings", f"[people] {hands.name} = Ida Voss: all", *why)
+    yield "who gives themselves all", door_commands.has(given, "(2, ", "may hand in, and not all")
+    given = own.gives("settings", "[office] program = /bin/sh", *why)
+    yield "a program", door_commands.has(given, "(3, ", "an editor of the owner alone changes it")
+    asked = own.gives("settings", "--file", new, *why)
+    yield "it is asked for", door_commands.has(asked, "(1, ", f"+ [people] {hands.name} = Ida Voss: hand in, change")
+    approve = "approve", "settings", re.findall(r"settings (\d+)", asked[1])[-1]
+    first, second = Visitor(anna, path).came_in(), Visitor(anna, path).came_in()
+    for what, who in (("a browser", first), ("another one", second), ("a proxy", named_by(proxy, path, anna))):
+        told = who.yes(who.get("/approve"), "/approve", who=bert.name)
+        yield f"approved by {what}", door_commands.has(told.text, "another login approves it", "Nothing was done")
+    for word, wanted in (("--who", "another login approves it"), ("--for", "the system says for whom")):
+        given = own.gives(*approve, word, bert.name)
+        yield f"approved by {word} of another one", door_commands.has(given, "(2, ", wanted)
+    yield "approved by a command", door_commands.has(own.gives(*approve), "(2, ", "another login approves it")
+    forged = own.sends(door_commands.request(*approve, login=bert.name))
+    yield "approved by a login beside the words", door_commands.has(str(forged), "another login approves it")
+    given = door_commands.Giver(hands, path).gives(*approve)
+    yield "approved by who gets more by it", door_commands.has(given, "(2, ", "may hand in, and not all")
+    yield "nothing is written", differs(ini.read_text(), kept)
+    yield "a second one approves", door_commands.has(
+        door_commands.Giver(bert, path).gives(*approve), "(0, ", "it is written"
+    )
+    yield "it lies there to the letter", differs(ini.read_text(), new.read_text())
+    given = door_commands.Giver(hands, path).gives("change", "100210", "--waiver", "yes", *why)
+    yield "it counts at once", door_commands.has(given, "(1, ", "this would be changed")
+    ini.write_text(kept)
 
 
 def end_trials(path: Path, office: Path, anna: Login, bert: Login, desk: SocketDesk) -> Told:

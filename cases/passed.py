@@ -39,6 +39,7 @@ def passed_trials() -> Iterator[Told]:
                     yield f"day {seed}, {now.instructions[0].row}, {name}", f"it still refuses: {own}"
                 done |= {name} if came == "done" else set()
         done |= {name for name, own, now in slips_of(seed) if came_of(now, own) == "done"}
+    yield "what is told has a function for each check", {check.name for check in tables.CHECKS} ^ {*PASSING} or None
     yield "each check refused in a drawn day", {*PASSING} - seen or None
     yield "what is told is done, by each check", {*PASSING} - BY_NO_FIELD - done or None
     yield "and nothing is told to do where nothing passes", BY_NO_FIELD & done or None

@@ -90,6 +90,8 @@ def settings_trials(work: Path) -> Iterator[Told]:
         ("[people]\nanna = Anna: look\n  bert = Bert: all\n", "anna: found 'Anna: look"),
         ("[people]\nanna = Anna \u202eB: all\n", "anna: found 'Anna "),
         ("[four eyes]\ncommands = close, sell\n", "[four eyes]: found 'close, sell'"),
+        ("[anchor]\n", "[anchor]: found nothing; expected key = PATH"),
+        ("[anchor]\nkey = k\nother = x\n", "[anchor]: found 'other'; expected key = PATH"),
         ("[four eyes]\ncommands =\n", "[four eyes]: found nothing"), ("[four eyes]\ncommand = x\n", "found 'command'"),
         ("[poeple]\nanna = Anna: all\n", "section: found 'poeple'; expected one of [office], [due], [anchor], [peo"),
     ):  # fmt: skip
@@ -269,6 +271,13 @@ def whole_account_trials(work: Path) -> Iterator[Told]:
     yield "both wait", told(0, ["place 1, hand-in by", "place 2, change by"], "approve", *own)
     yield "both are approved", told(0, ["place 1,", "place 2,"], "approve", "1", "2", *of("bert"), *own)
     yield "nothing waits", told(0, ["nothing waits for another login"], "approve", *own)
+    row = BLOCK.partition("\n")[0]
+    for number, (more, of_rows) in enumerate((("", ""), ("", " and 1 rows"), ("user,4202,both\n", " and 2 rows"))):
+        office, own = settled(work, f"rows-{number}")
+        block = file_of(work, f"block-{number}.csv", f"{BLOCK}{more}" if of_rows else row)
+        must_do(["hand-in", str(block), *of("anna"), *own])
+        kept = [change["change"] for change in json.loads(Said("changes", "--json", *own).output)]
+        yield f"changes of{of_rows or ' one row'}", differs(kept, [f"{row}{of_rows}"])
 
 
 def close_trials(work: Path) -> Iterator[Told]:

@@ -90,6 +90,11 @@ def test_paths_are_told_as_a_folder(office: list[str]) -> None:
     )
 
 
+def test_paths_of_the_later_day_first(office: list[str]) -> None:
+    paths = [WEEK / f"{name}{end}.csv" for name in NAMES[1::-1] for end in ("", "-report")]
+    assert rows_of("--pairs", *paths) == rows_of(*DATES[1::-1], *office)
+
+
 def test_two_folders_with_another_instruction(office: list[str], tmp_path: Path) -> None:
     """What one more creation makes of a day, and nothing else."""
     row = "2025-09-24,901,902,create,900009,general,7"

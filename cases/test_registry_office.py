@@ -5,6 +5,7 @@ from __future__ import annotations
 import ast
 import datetime
 import inspect
+import itertools
 import os
 import signal
 import subprocess
@@ -12,14 +13,18 @@ import sys
 import threading
 from collections.abc import Callable, Iterator
 from pathlib import Path
+from unittest import mock
 
 import pytest
 
 import registry_office as office
 from harness import PYTHON, TOP, Word, answer_of
-from offices import FIRST, changed, content_of, without_triggers
+from offices import FIRST, chained_anew, changed, content_of, without_triggers
 
-from registry_tools.store import events
+from registry_tools.pairs import compliance
+from registry_tools.store import events, past
+from registry_tools.store.past import PastDay
+from registry_tools.texts.rows import sum_of
 
 DATE = datetime.date(2025, 3, 31)
 FUNCTIONS = [name for name in office.__all__ if inspect.isfunction(getattr(office, name))]
@@ -256,3 +261,53 @@ def test_folder_of_a_program_is_read_by_another_process(folder: office.Office) -
         [TOP / "day", "audit", "--second", "--office", folder.path], capture_output=True, text=True, check=False
     )
     assert said.returncode == 0 and "days 1, pairs read 1: 0 differences" in said.stdout
+
+
+def test_command_makes_those_events_alone_that_it_asks_for(folder: office.Office) -> None:
+    """Who opens a folder compares each line, and makes events of days; who has it open reads what is new."""
+    closed(folder)
+    for number in range(60):
+        name = office.one_name("user", str(1_000 + number), f"User {number}")
+        office.keep_names(folder, office.caller(folder, "ben"), [name], "new")
+    known, made = len(folder.events.all), events.event_of
+    with office.open_folder(folder.path) as other, mock.patch.object(events, "event_of", wraps=made) as making:
+        with office.open_folder(folder.path) as third:
+            assert [own.line for own in third.events.days] == [folder.events.days[0].line] and making.call_count == 1
+        office.keep_names(other, office.caller(other, "eve"), [office.one_name("user", "7", "Eve")], "new")
+        with mock.patch.object(events, "sum_of", wraps=sum_of) as comparing, folder.store.reading():
+            assert comparing.call_count == 1
+        assert [own.who for own in folder.events.behind(known)] == ["eve"] and folder.events.all == other.events.all
+
+
+def test_who_knows_a_folder_sees_that_its_end_is_another_one(folder: office.Office) -> None:
+    """With all sums of the chain made anew, and more behind it."""
+    closed(folder)
+    changed(folder.path, "UPDATE events SET who = 'eve' WHERE id = 2")
+    chained_anew(folder.path)
+    with office.open_folder(folder.path) as other:
+        office.keep_names(other, office.caller(other, "ben"), [office.one_name("user", "7", "Eve")], "new")
+    with folder.store.reading():
+        assert [own.who for own in folder.events.all] == ["ana", "eve", "ben"]
+
+
+@pytest.fixture(scope="module")
+def six_days(tmp_path_factory: pytest.TempPathFactory) -> list[PastDay]:
+    """Six days of 400 accounts, with emissions and surrenders among 30 instructions a day."""
+    path = tmp_path_factory.mktemp("days") / "office"
+    asked = ["--days", "6", "--accounts", "400", "--instructions", "30"]
+    subprocess.run([sys.executable, "-B", TOP / "bench/folder.py", path, *asked], check=True, capture_output=True)
+    with office.open_folder(path) as made:
+        return [*past.read_all([made.store.pair_of(event) for event in made.events.days])]
+
+
+def test_who_stands_as_before_is_not_worked_out_again(six_days: list[PastDay]) -> None:
+    """How operators stand is the same, whatever day it is worked out by; of those alone that may have changed."""
+    for before, after in itertools.permutations(six_days, 2):
+        stood = compliance.Stood(before.day, before.report, [*compliance.standings(before.day, before.report, 2024)])
+        wanted = [*compliance.standings(after.day, after.report, 2024)]
+        with mock.patch.object(compliance, "standing_of", wraps=compliance.standing_of) as working:
+            assert [*compliance.standings(after.day, after.report, 2024, stood)] == wanted
+        again = {call.args[1].number for call in working.call_args_list}
+        told = {log.instruction.first for own in (before, after) for log in own.report.log
+                if log.is_done and log.instruction.act == "emissions"}  # fmt: skip
+        assert told and told & {own.account.number for own in wanted} <= again and len(again) < len(wanted)

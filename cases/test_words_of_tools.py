@@ -7,6 +7,8 @@ import pytest
 
 from harness import TOP, Said
 
+from registry_tools import errors
+
 MORNING = TOP / "examples/first-transfer.csv"
 # What is typed, and how the first line of standard error has to begin.
 REFUSED = {
@@ -90,3 +92,15 @@ def test_a_file_that_is_no_text(tmp_path: Path, mend: list[str]) -> None:
     for name, content in others.items():
         (tmp_path / name).write_bytes(content)
         assert "it is no text" not in Said("explain", tmp_path / name, *mend).errors
+
+
+@pytest.mark.parametrize(
+    ("letter", "shown"),
+    [
+        ("\udc80", "<byte 80>"), ("\udcff", "<byte FF>"), ("\udc7f", "<U+DC7F>"), ("\udd00", "<U+DD00>"),
+        ("\0", "<NUL>"), ("\x01", "<U+0001>"), ("\u202e", "<U+202E>"), ("\xa0", "<no-break space>"),
+        (" ", " "), ("\u00c4", "\u00c4"), ("'", "'"),
+    ],
+)  # fmt: skip
+def test_a_letter_that_nobody_sees(letter: str, shown: str) -> None:
+    assert errors.visible(letter) == shown

@@ -25,11 +25,12 @@ from registry_tools import opening
 from registry_tools.errors import Fault, FileFault, LateFault, RightsFault, RowFault, UnwrittenFault, WordsFault
 from registry_tools.layout import SETTINGS
 from registry_tools.office import folder
-from registry_tools.office.kept_heads import Anchor, anchor_of
+from registry_tools.questions.kept_heads import Anchor, anchor_of
 from registry_tools.office.approvals import AskedFor
 from registry_tools.office.approve import approve_command, approve_places
 from registry_tools.office.change import Change, Changed, change_by_hand
-from registry_tools.office.close import Close, Closed, Doubts, Outcome, close
+from registry_tools.office.close import Close, Closed, Doubts, Outcome, Settled, close
+from registry_tools.office.composing import NextDay
 from registry_tools.office.correct import Correct, Corrected, Shown, correct
 from registry_tools.office.hand_in import Added, HadFault, HandIn, hand_in, look_at
 from registry_tools.office.intake import Item, Part
@@ -53,15 +54,22 @@ from registry_tools.questions.find import Find, find
 from registry_tools.questions.history import history
 from registry_tools.questions.seams import Found
 from registry_tools.questions.status import Status, status
+from registry_tools.second.days import Instruction
 from registry_tools.store import copies
 from registry_tools.store.copies import Copy
+from registry_tools.store.events import Event
 from registry_tools.tables import VERSION as __version__
+from registry_tools.texts.books import Sums
+from registry_tools.texts.day_text import DayText
+from registry_tools.texts.namebook import Label
+from registry_tools.texts.report import LogRow, Report
 
 __all__ = [
     "Added", "Anchor", "AskedFor", "Audit", "By", "Change", "Changed", "Close", "Closed", "Copy", "Correct",
-    "Corrected", "Days", "Doubts", "Due", "Edit", "EditFault", "Fault", "FileFault", "Find", "Forms", "Found", "Given",
-    "HadFault", "HandIn", "Init", "Item", "LateFault", "LinkFault", "Looked", "Named", "Office", "Outcome", "Part",
-    "Release", "Released", "RightsFault", "RowFault", "Shown", "Status", "TableFault", "TakeBack", "Tried", "Undo",
+    "Corrected", "DayText", "Days", "Doubts", "Due", "Edit", "EditFault", "Event", "Fault", "FileFault", "Find",
+    "Forms", "Found", "Given", "HadFault", "HandIn", "Init", "Instruction", "Item", "Label", "LateFault", "LinkFault",
+    "LogRow", "Looked", "Named", "NextDay", "Office", "Outcome", "Part", "Release", "Released", "Report",
+    "RightsFault", "RowFault", "Settled", "Shown", "Status", "Sums", "TableFault", "TakeBack", "Tried", "Undo",
     "Undone", "Unproved", "UnwrittenFault", "WordsFault", "__version__", "anchor_of", "approve_command",
     "approve_places", "audit", "backup", "balance", "caller", "change_by_hand", "close", "correct", "days_of",
     "due_until", "edit_of", "find", "hand_in", "history", "init", "keep_names", "look_at", "make_folder", "one_name",
@@ -83,7 +91,8 @@ def open_folder(path: str | os.PathLike[str]) -> Office:
 
 
 def make_folder(asked: Init, who: str) -> None:
-    """Makes a folder of days with its first text, which is not settled by that. Raises FileFault or WordsFault."""
+    """Makes a folder of days with its first text, which is not settled by that, by this login: a folder that is made
+    knows no people yet. Raises FileFault or WordsFault."""
     init(asked, by_of(People(), who))
 
 

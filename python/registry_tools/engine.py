@@ -31,9 +31,9 @@ NO_LIBRARY = "there is no library that is as new as its sources", "name a progra
 told: set[str] = set()
 
 
-def tell_once(said: bytes) -> None:
+def tell_once(sentence: bytes) -> None:
     """Passes on what a program says beside its text, such as that it is not proved: each word of it once."""
-    words = said.decode("utf-8", "replace").strip()
+    words = sentence.decode("utf-8", "replace").strip()
     if words and words not in told:
         told.add(words)
         progress.clear()
@@ -86,8 +86,8 @@ class Program:
             here = f"; ./{self.name} is the file of this folder" if is_here else ""
             raise WordsFault(f"{self.option} {self.name} cannot be run: {error.strerror}{here}") from None
         if run.returncode:
-            said = run.stderr.decode(errors="replace").strip()
-            raise NotSettled(f"{self.name} settle ends with status {run.returncode}: {said}")
+            errors = run.stderr.decode(errors="replace").strip()
+            raise NotSettled(f"{self.name} settle ends with status {run.returncode}: {errors}")
         tell_once(run.stderr)
         return run.stdout
 
@@ -141,10 +141,10 @@ def find_library() -> Library | None:
     """The library that REGISTRY_LIBRARY names, or the one of this repository, if it was built and is new, or of this
     installation."""
     if not os.environ.get("REGISTRY_LIBRARY"):
-        own = LIBRARY if is_new(LIBRARY) else installed.library()
-        if own is None:
+        path = LIBRARY if is_new(LIBRARY) else installed.library()
+        if path is None:
             return None
-        os.environ["REGISTRY_LIBRARY"] = str(own)
+        os.environ["REGISTRY_LIBRARY"] = str(path)
     try:
         return Library(calls_of_library())
     except (OSError, ImportError, AttributeError) as error:
@@ -190,8 +190,8 @@ def confirm_figures(day: DayText, report: Report) -> None:
         found = {int(year): int(figure) for _, year, figure in rows}
         expected = wanted.get(number, {})
         if found != expected:
-            field, said = f"figures of account {number}", f"{words_of(expected)}, as the library gives them"
-            raise FileFault(report.source.path, block.line, field, words_of(found), said)
+            field, expectation = f"figures of account {number}", f"{words_of(expected)}, as the library gives them"
+            raise FileFault(report.source.path, block.line, field, words_of(found), expectation)
 
 
 def figures_by_account(rows: list[str]) -> dict[int, dict[int, int]]:

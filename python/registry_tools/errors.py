@@ -20,8 +20,8 @@ class Fault(Exception):
     # The exit status; the word by which programs know what kind of fault it is; and what is done about such a one.
     status = WORDS
     code = remedy = ""
-    # What is done about this one, at the end of its sentence, if that is known.
-    way = ""
+    # What is done about this one, if that is known; behind the sentence stands the `joint`, and then the way.
+    way, joint = "", "; "
     # The day behind a corrected one that can't be closed so, if it is a fault of that day.
     behind: datetime.date | None = None
 
@@ -42,7 +42,7 @@ class WordsFault(Fault):
     def __init__(self, why: str, way: str = "", joint: str = ": ") -> None:
         # (between both stands the `joint`)
         super().__init__(f"{why}{joint}{way}" if way else why)
-        self.why, self.way = why, way
+        self.why, self.way, self.joint = why, way, joint
 
     def without_way(self) -> str:
         """The same without the way out."""
@@ -74,12 +74,20 @@ class FileFault(Fault):
     # Of something that was handed in, its place.
     place: int | None = None
 
-    def __init__(self, path: str | Path, line: int, field: str, found: object, expected: str) -> None:
+    def __init__(
+        self, path: str | Path, line: int, field: str, found: object, expected: str, way: str = "", joint: str = ": "
+    ) -> None:
         super().__init__(path, line, field, found, expected)
         self.path, self.line, self.field, self.found, self.expected = path, line, field, found, expected
+        if way:
+            self.way, self.joint = way, joint
 
     def __str__(self) -> str:
-        return f"{self.without_way()}; {self.way}" if self.way else self.without_way()
+        return f"{self.without_way()}{self.joint}{self.way}" if self.way else self.without_way()
+
+    def add_way(self, way: str) -> None:
+        """Tells one more thing that is done about it."""
+        self.way = f"{self.way}; {way}" if self.way else way
 
     def parts(self) -> "Sequence[FileFault]":
         """The faults that it tells: itself, or several that were found together."""
@@ -115,9 +123,9 @@ class RowFault(FileFault):
         return f"row {self.number}: {self.cause}"
 
 
-def of_file(path: str | Path, found: str) -> FileFault:
-    """The fault of a whole file: `found` says all of it."""
-    return FileFault(path, 0, "", found, "")
+def of_file(path: str | Path, found: str, way: str = "", joint: str = ": ") -> FileFault:
+    """The fault of a whole file: `found` says all of it, but what is done about it."""
+    return FileFault(path, 0, "", found, "", way, joint)
 
 
 def raise_first(faults: Iterable[FileFault | None]) -> None:
@@ -127,12 +135,12 @@ def raise_first(faults: Iterable[FileFault | None]) -> None:
 
 
 def must_be_known(
-    path: str | Path, field: str, words: Iterable[str], known: Collection[str], expected: str = ""
+    path: str | Path, field: str, words: Iterable[str], allowed: Collection[str], expected: str = ""
 ) -> None:
     """Ends the command at the first of these words of a file that is none of the known ones."""
     for word in words:
-        if word not in known:
-            raise FileFault(path, 0, field, shown(word), expected or f"one of {', '.join(known)}")
+        if word not in allowed:
+            raise FileFault(path, 0, field, shown(word), expected or f"one of {', '.join(allowed)}")
 
 
 def shown(word: str) -> str:

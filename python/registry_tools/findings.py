@@ -48,7 +48,7 @@ class Findings:
 
     def tell(self, start: str, fault: FileFault) -> None:
         """Tells a fault as a line, or counts it where equal ones were told."""
-        parts = (start, str(fault.field), str(fault.found), str(fault.expected))
+        parts = (start, str(fault.field), str(fault.found), str(fault.expected), fault.way)
         # (a file is named by its path, also if numbers stand in it)
         key = (str(fault.path), *(OWN.sub("#", part) for part in parts))
         kind = self.kinds.setdefault(key, Kind(str(fault.path)))

@@ -33,28 +33,28 @@ def frame(kind: bytes, content: bytes = b"") -> bytes:
     return HEAD.pack(kind, len(content)) + content
 
 
-def send(own: socket.socket, kind: bytes, content: bytes = b"") -> None:
+def send(connection: socket.socket, kind: bytes, content: bytes = b"") -> None:
     """Sends a frame. Raises Broken."""
     try:
-        own.sendall(frame(kind, content))
+        connection.sendall(frame(kind, content))
     except OSError as error:
         raise Broken(str(error.strerror)) from None
 
 
-def send_at_once(own: socket.socket, content: bytes) -> None:
+def send_at_once(connection: socket.socket, content: bytes) -> None:
     """Sends some bytes, the last ones, and waits for nobody."""
-    own.setblocking(False)
+    connection.setblocking(False)
     try:
-        own.send(content)
-        own.shutdown(socket.SHUT_WR)
+        connection.send(content)
+        connection.shutdown(socket.SHUT_WR)
     except OSError:
         # (they are gone)
         pass
 
 
-def refuse(own: socket.socket, why: str) -> None:
+def refuse(connection: socket.socket, why: str) -> None:
     """Tells whoever wants to give a command that nothing is done, and why."""
-    send_at_once(own, frame(ERRORS, f"{why}\n".encode()) + frame(STATUS, bytes([FAULT])))
+    send_at_once(connection, frame(ERRORS, f"{why}\n".encode()) + frame(STATUS, bytes([FAULT])))
 
 
 def take(stream: BinaryIO, most: int) -> tuple[bytes, bytes]:
@@ -93,7 +93,8 @@ def heard(content: bytes) -> Any:
         raise Broken("words that are none") from None
 
 
-def user_at(own: socket.socket) -> int:
+def user_at(connection: socket.socket) -> int:
     """The user of the system at the other end of a connection."""
-    _, user, _ = struct.unpack("iII", own.getsockopt(socket.SOL_SOCKET, socket.SO_PEERCRED, struct.calcsize("iII")))
+    peer = connection.getsockopt(socket.SOL_SOCKET, socket.SO_PEERCRED, struct.calcsize("iII"))
+    _, user, _ = struct.unpack("iII", peer)
     return int(user)

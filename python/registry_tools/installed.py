@@ -42,10 +42,10 @@ def program() -> str | None:
 def is_registry(path: Path) -> bool:
     """Whether a program says that it is this one: others have the same name."""
     try:
-        said = subprocess.run([path, "--version"], capture_output=True, timeout=MOST_SECONDS, check=False).stdout
+        output = subprocess.run([path, "--version"], capture_output=True, timeout=MOST_SECONDS, check=False).stdout
     except (OSError, subprocess.TimeoutExpired):
         return False
-    return re.match(rb"registry [0-9]", said) is not None
+    return re.match(rb"registry [0-9]", output) is not None
 
 
 def note_of(path: str) -> Path:
@@ -62,6 +62,6 @@ def library() -> Path | None:
         return None
     system = Path("lib") / str(sysconfig.get_config_var("MULTIARCH"))
     # (beside the calls, as pip puts it, or where a system has its libraries)
-    there = [Path(spec.origin).with_name("libregistry.so")]
-    there += [prefix / room / LIBRARY for prefix in prefixes() for room in (Path("lib"), system)]
-    return next((path for path in there if path.exists()), None)
+    paths = [Path(spec.origin).with_name("libregistry.so")]
+    paths += [prefix / room / LIBRARY for prefix in prefixes() for room in (Path("lib"), system)]
+    return next((path for path in paths if path.exists()), None)

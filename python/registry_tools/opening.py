@@ -29,7 +29,7 @@ class LinkFault(FileFault):
     code, remedy = "link", "take it away, once it is known who put it there"
 
     def __init__(self, path: str | Path, found: str = "a link") -> None:
-        super().__init__(path, 0, "", found, "a file or folder of its own: look who put it there, and take it away")
+        super().__init__(path, 0, "", found, "a file or folder of its own", "look who put it there, and take it away")
 
 
 def guard(folder: str | Path) -> None:
@@ -40,7 +40,7 @@ def guard(folder: str | Path) -> None:
 def below(path: str | Path) -> tuple[str, list[str]] | None:
     """The guarded folder in which a path lies, and the names from there; None, if it lies in none."""
     whole = os.path.abspath(path)
-    root = next((own for own in guarded if whole.startswith(f"{own}/")), None)
+    root = next((top for top in guarded if whole.startswith(f"{top}/")), None)
     return None if root is None else (root, whole[len(root) + 1 :].split("/"))
 
 

@@ -77,11 +77,12 @@ def keep(fault: errors.Fault) -> None:
     telling.faults += map(data_of, fault.parts())
 
 
-def data_of(own: errors.Fault) -> Fault:
+def data_of(fault: errors.Fault) -> Fault:
     """A fault as data."""
-    if isinstance(own, FileFault):
-        return Fault(own.code, str(own.path), own.line, own.field, str(own.found), str(own.expected), own.way)
-    return Fault(own.code, "", 0, "", own.without_way(), "", own.way)
+    if isinstance(fault, FileFault):
+        found, expected = str(fault.found), str(fault.expected)
+        return Fault(fault.code, str(fault.path), fault.line, fault.field, found, expected, fault.way)
+    return Fault(fault.code, "", 0, "", fault.without_way(), "", fault.way)
 
 
 def asked_for() -> None:
@@ -91,14 +92,14 @@ def asked_for() -> None:
 
 def write(path: Path, status: int) -> None:
     """Writes what came of the command."""
-    own = asdict(telling.outcome(status))
-    path.write_text(json.dumps({**own, "kind": own["kind"].value}, indent=1) + "\n", encoding="ascii")
+    values = asdict(telling.outcome(status))
+    path.write_text(json.dumps({**values, "kind": values["kind"].value}, indent=1) + "\n", encoding="ascii")
 
 
 def read(path: Path) -> Outcome | None:
     """What a command wrote of itself; nothing, if it was killed before."""
     try:
-        own = json.loads(path.read_text(encoding="ascii"))
-        return Outcome(Kind(own["kind"]), own["status"], tuple(Fault(**fault) for fault in own["faults"]))
+        values = json.loads(path.read_text(encoding="ascii"))
+        return Outcome(Kind(values["kind"]), values["status"], tuple(Fault(**fault) for fault in values["faults"]))
     except (OSError, ValueError, KeyError, TypeError):
         return None

@@ -53,17 +53,17 @@ def must_be_writable(path: str | Path) -> None:
     must_be_here(path)
     must_be_no_link(path)
     must_not_be_of_folder(path)
-    own = Path(path)
-    if own.exists() and not own.is_file():
-        raise of_file(path, f"it cannot be written: it is {'a folder' if own.is_dir() else 'no file'}")
+    place = Path(path)
+    if place.exists() and not place.is_file():
+        raise of_file(path, f"it cannot be written: it is {'a folder' if place.is_dir() else 'no file'}")
     # (to the superuser each file is open, also one that nobody may write)
-    if own.exists() and (not own.stat().st_mode & ANYBODY_WRITES or not os.access(own, os.W_OK)):
+    if place.exists() and (not place.stat().st_mode & ANYBODY_WRITES or not os.access(place, os.W_OK)):
         raise of_file(path, "it may not be written")
-    if not own.parent.is_dir():
-        is_file = own.parent.exists() or not_a_folder(own.parent)
-        why = "Not a directory" if is_file else f"there is no folder {own.parent}"
+    if not place.parent.is_dir():
+        is_file = place.parent.exists() or not_a_folder(place.parent)
+        why = "Not a directory" if is_file else f"there is no folder {place.parent}"
         raise of_file(path, f"it cannot be written: {why}")
-    if not os.access(own.parent, os.W_OK | os.X_OK):
+    if not os.access(place.parent, os.W_OK | os.X_OK):
         raise of_file(path, "it cannot be written: its folder may not be written")
 
 
@@ -130,18 +130,18 @@ def made_aside(path: str | Path, mode: int = 0o666) -> Iterator[Path]:
         yield made
         path.caller.write(path, made)
         return
-    own = Path(path)
-    beside = own.absolute().parent / name_beside(own.name)
+    place = Path(path)
+    beside = place.absolute().parent / name_beside(place.name)
     remove_left(beside.parent)
     try:
-        with writing(own):
+        with writing(place):
             os.close(opening.create(beside, mode))
         opening.must_have_locks(beside)
         yield beside
-        with writing(own):
+        with writing(place):
             steps.hold()
-            os.replace(beside, own)
-        keep_name(own)
+            os.replace(beside, place)
+        keep_name(place)
     except BaseException:
         for end in ("", *BESIDE):
             with contextlib.suppress(OSError):
@@ -239,18 +239,18 @@ class SentFolder(NewFolder):
 
     def __init__(self, path: Elsewhere) -> None:
         super().__init__(path.caller.aside / "made")
-        self.own, self.is_sent = path, False
+        self.elsewhere, self.is_sent = path, False
 
     def have_all_there(self) -> None:
         """Sends all that was written. Raises OSError if that cannot be."""
         if not self.is_sent:
-            self.own.caller.write_folder(self.own, self.beside)
+            self.elsewhere.caller.write_folder(self.elsewhere, self.beside)
             self.is_sent = True
 
     def keep(self) -> None:
         """Gives it its name there. Raises OSError."""
         self.have_all_there()
-        self.own.caller.keep_folder(self.own)
+        self.elsewhere.caller.keep_folder(self.elsewhere)
 
 
 def new_folder(path: str | Path) -> NewFolder:
@@ -305,12 +305,12 @@ class SentFile(NewFile):
     """A file that is written elsewhere."""
 
     def __init__(self, path: Elsewhere, text: str | bytes) -> None:
-        self.own = path
+        self.elsewhere = path
         self.content = text if isinstance(text, bytes) else text.encode("utf-8", "surrogateescape")
 
     def keep(self) -> None:
         """Sends it. Raises OSError if that cannot be."""
-        self.own.caller.write(self.own, self.content)
+        self.elsewhere.caller.write(self.elsewhere, self.content)
 
     def forget(self) -> None:
         """Does nothing: what was not sent is not there."""

@@ -33,12 +33,12 @@ class Build(NamedTuple):
 
 def build_of(path: Path | str, note: Path | str) -> Build:
     """A program or a library at a path, by the note of its build."""
-    own, noted = Path(path), Path(note)
+    program, noted = Path(path), Path(note)
     try:
-        own_sum, end = read(own)
+        own_sum, end = read(program)
     except OSError as error:
-        return Build("", f"{own} cannot be read: {error.strerror}")
-    return Build(own_sum, doubt_of(own, own_sum, end, noted))
+        return Build("", f"{program} cannot be read: {error.strerror}")
+    return Build(own_sum, doubt_of(program, own_sum, end, noted))
 
 
 def says_proved(told: str) -> bool:
@@ -53,12 +53,12 @@ def sums_in(told: str) -> list[str]:
 
 def read(path: Path) -> tuple[str, bytes]:
     """The SHA-256 of a file, and its last bytes."""
-    own, end = hashlib.sha256(), b""
+    digest, end = hashlib.sha256(), b""
     with path.open("rb") as file:
         while part := file.read(PART):
-            own.update(part)
+            digest.update(part)
             end = (end + part)[-END:]
-    return own.hexdigest(), end
+    return digest.hexdigest(), end
 
 
 def doubt_of(path: Path, own_sum: str, end: bytes, note: Path) -> str:

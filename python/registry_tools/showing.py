@@ -46,8 +46,8 @@ def as_table(columns: Sequence[str], rows: Sequence[Sequence[Cell]], numbers: Se
     """Rows as a text table; numbers stand at the right, those that name nothing with commas."""
     grouped = numbers - NAMES
     shown = [
-        ["" if own is None else f"{own:,}" if name in grouped and type(own) is int else str(own)
-         for name, own in zip(columns, row)]
+        ["" if cell is None else f"{cell:,}" if name in grouped and type(cell) is int else str(cell)
+         for name, cell in zip(columns, row)]
         for row in rows
     ]
     return "\n".join([*in_words.table_lines([*columns], shown, numbers), ""])
@@ -58,8 +58,10 @@ NAMES = {"record", "account", "year", "user", "code", "proposer", "approver", "f
 
 
 def fault_row(fault: FileFault | None) -> list[Cell]:
-    """A fault as a row of FAULT; of none, nothing. If the whole file is meant, `found` says all."""
+    """A fault as a row of FAULT, its way out behind what is expected; of none, nothing. If the whole file is meant,
+    `found` says all."""
     if fault is None:
         return [None] * len(FAULT)
-    told = (str(own) or None for own in (fault.field, fault.found, fault.expected))
-    return [str(fault.path), fault.line or None, *told]
+    way = f"{fault.joint}{fault.way}" if fault.way else ""
+    found, expected = (str(fault.found), f"{fault.expected}{way}") if fault.expected else (f"{fault.found}{way}", "")
+    return [str(fault.path), fault.line or None, *(part or None for part in (str(fault.field), found, expected))]

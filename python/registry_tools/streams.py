@@ -43,11 +43,9 @@ def is_open(stream: TextIO | None) -> bool:
     return stream is not None
 
 
-def open_standard_error() -> TextIO:
-    """Standard error; if it is closed, one that takes all and shows nothing. Else a file that is opened would come in
-    its place."""
-    if is_open(sys.stderr):
-        return sys.stderr
+def open_nothing() -> TextIO:
+    """A stream that takes all and shows nothing, in place of standard error that is closed: else a file that is opened
+    would come there."""
     nothing = os.open(os.devnull, os.O_WRONLY)
     while nothing < 2:
         nothing = os.dup(nothing)
@@ -59,10 +57,11 @@ def make_ready(name: str, failed: int) -> None:
     output is closed: a file that it opens would come in its place."""
     if name.endswith("-day"):
         names["./day"] = name
-    sys.stderr = cast(TextIO, Quiet(open_standard_error()))
+    errors = sys.stderr or open_nothing()
+    sys.stderr = cast(TextIO, Quiet(errors))
     if not can_be_written(name):
         sys.exit(failed)
-    for stream in (sys.stdout, sys.stderr):
+    for stream in (sys.stdout, errors):
         cast(io.TextIOWrapper, stream).reconfigure(encoding="utf-8", errors="surrogateescape", newline="\n")
 
 

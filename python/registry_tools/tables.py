@@ -128,12 +128,14 @@ DISTRIBUTE = "distribute"
 
 
 class Check(NamedTuple):
-    """A check: its name, the acts that it can refuse, when it fails, and what to do then. Its code is its place."""
+    """A check: its name, the acts that it can refuse, when it fails, what to do then, and whether it finds something of
+    the first account alone, and of no other account, user or list. Its code is its place."""
 
     name: str
     acts: str
     meaning: str
     advice: str
+    of_itself: bool = False
 
 
 ALL = " ".join(act.word for act in ACTS)
@@ -154,7 +156,8 @@ CHECKS = (
           "assess",
           "FROM does not have a status that the [table of acts](#the-acts) names. A transfer or a deletion: it is not "
           "open. An assessment: it is excluded or closed. Any other act: it is closed.",
-          "Use another account, or ask an administrator to change the status of FROM. A closed account stays closed."),
+          "Use another account, or ask an administrator to change the status of FROM. A closed account stays closed.",
+          of_itself=True),
     Check("DestinationStatus", "transfer return create central distribute",
           "TO is closed. A distribution: one of the receivers is.",
           "Use another account."),
@@ -181,29 +184,29 @@ CHECKS = (
           "Put TO on the trusted list of FROM, and wait until the entry takes effect."),
     Check("OutsideCalendar", ALL,
           "The instruction has no due day. An addition: also if there is no day on which it would take effect.",
-          "Put more working days into the calendar, by `work` rows, and enter the instruction again."),
+          "Put more working days into the calendar, by `work` rows, and enter the instruction again.", of_itself=True),
     Check("NotDue", ALL,
           "The due day is later than the settlement day.",
           "`./day next` and `./day close` enter the same row again on its due day, with [its old date of "
           "proposal](FORMATS.md#refused-instructions). Without them, enter the row so by hand."),
     Check("KindNotAllowed", "surrender",
           "A surrender: the surrender table does not allow this kind of allowance for this kind of account.",
-          "Surrender allowances of an allowed kind."),
+          "Surrender allowances of an allowed kind.", of_itself=True),
     Check("ZeroAmount", "transfer surrender delete return create central distribute",
           "The amount is 0. A distribution: one of the amounts is. The tonnes of an entry of emissions may be 0.",
-          "Give an amount of at least 1."),
+          "Give an amount of at least 1.", of_itself=True),
     Check("UnknownTransaction", "reverse",
           "A reversal: the account has no surrender or deletion with this record number.",
-          "Check the account and the record number."),
+          "Check the account and the record number.", of_itself=True),
     Check("AlreadyReversed", "reverse",
           "A reversal: this surrender or deletion was reversed before.",
-          "Nothing is left to do. If you meant another one, check the record number."),
+          "Nothing is left to do. If you meant another one, check the record number.", of_itself=True),
     Check("WindowClosed", "reverse",
           "A reversal: the reversal window ended before the settlement day.",
-          "It cannot be reversed any more."),
+          "It cannot be reversed any more.", of_itself=True),
     Check("NotEnough", "transfer surrender delete return central distribute",
           "FROM holds less than the amount. A distribution: less than the sum of the amounts.",
-          "Lower the amount, or let FROM receive allowances first."),
+          "Lower the amount, or let FROM receive allowances first.", of_itself=True),
     Check("HoldingTooLarge", "transfer return reverse create central distribute",
           "An account that receives would hold more than 10^15 allowances of the kind: a TO, or the ACCOUNT of a "
           "reversal.",
@@ -211,15 +214,15 @@ CHECKS = (
     Check("RetiredTooLarge", "surrender delete",
           "A surrender: the account would have surrendered more than 10^15 allowances of the kind. A deletion: it "
           "would have deleted more than this.",
-          "Lower the amount."),
+          "Lower the amount.", of_itself=True),
     Check("RowsFull", "surrender delete",
           "A surrender or deletion: the account already has 4,096 surrenders and deletions. Reversed ones count.",
-          "Use another account."),
+          "Use another account.", of_itself=True),
     Check("WouldBecomeNonCompliant", "reverse",
           "A reversal of a surrender: the figure of the latest determined year of the period of this surrender is 0 "
           "or more and would be below 0.",
           "Surrender enough allowances first. They count only if the period of this surrender is the current one: "
-          "see [below](#periods-and-years)."),
+          "see [below](#periods-and-years).", of_itself=True),
     Check("AlreadyTrusted", "trust",
           "An addition: OTHER is on the trusted list already, whether its entry is in effect or not.",
           "Nothing. If the entry is not in effect yet, wait until it is."),
@@ -231,14 +234,14 @@ CHECKS = (
           "Remove an entry first."),
     Check("YearOutsidePeriod", "emissions assess",
           "An entry of emissions or an assessment: the year is in no period.",
-          "Check the year, and the `period` rows of the day: see [below](#periods-and-years)."),
+          "Check the year, and the `period` rows of the day: see [below](#periods-and-years).", of_itself=True),
     Check("AmountTooLarge", "emissions",
           "An entry of emissions: the emissions are above 10^12 tonnes.",
-          "Check the number of tonnes."),
+          "Check the number of tonnes.", of_itself=True),
     Check("EmissionsMissing", "assess",
           "An assessment: the emissions of this year, or of an earlier year of its period, are missing.",
           "Enter the emissions of every year from the first year of its period up to this one. A year in which "
-          "nothing was emitted takes an entry of 0 tonnes. Years of earlier periods need no entry."),
+          "nothing was emitted takes an entry of 0 tonnes. Years of earlier periods need no entry.", of_itself=True),
 )  # fmt: skip
 # These two ask the representatives, or the administrators, as the act says.
 ASK_USERS = ("NotProposer", "NotApprover")

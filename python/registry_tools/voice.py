@@ -53,6 +53,7 @@ class Desk(Terminal):
         "undo": "Undo", "release": "Release", "status": "Today", "approve": "Today", "audit": "Audit", "send": "Send",
         "next": "The next day", "find": "Find", "history": "Accounts", "compliance": "Compliance", "month": "Months",
         "label": "Names", "form": "Hand in", "correct": "Correct", "db": "The office", "backup": "The office",
+        "settings": "The office",
     }  # fmt: skip
     # What the field of a form is called that says what an option says.
     fields = {
@@ -62,7 +63,7 @@ class Desk(Terminal):
     }  # fmt: skip
 
     def __init__(self, folder: Path | None = None, aside: Path | None = None) -> None:
-        self.begins = [f"{own}{os.sep}" for own in (folder, aside) if own is not None]
+        self.begins = [f"{each}{os.sep}" for each in (folder, aside) if each is not None]
         self.folder = str(folder)
 
     def command(self, name: str, *words: object) -> str:
@@ -75,11 +76,11 @@ class Desk(Terminal):
 
     def path(self, path: str | Path) -> str:
         """A file by its place in the folder; of others, the name."""
-        own = str(path)
-        if own == self.folder:
+        name = str(path)
+        if name == self.folder:
             return "the folder"
-        begin = next((own_begin for own_begin in self.begins if own.startswith(own_begin)), "")
-        return own.removeprefix(begin)
+        begin = next((own_begin for own_begin in self.begins if name.startswith(own_begin)), "")
+        return name.removeprefix(begin)
 
     def time(self, at: str) -> str:
         """A time of the events, on the clock of this machine."""
@@ -128,9 +129,9 @@ def option(name: str, *words: object) -> str:
     return _voice.get().option(name, *words)
 
 
-def path(own: str | Path) -> str:
+def path(place: str | Path) -> str:
     """Where a file lies."""
-    return _voice.get().path(own)
+    return _voice.get().path(place)
 
 
 def time(at: str) -> str:

@@ -14,6 +14,7 @@ from registry_tools.second import faults, rules
 from registry_tools.texts.accounts import Block
 from registry_tools.texts.books import Retired, open_by_late_begin, retired_of
 from registry_tools.texts.day_text import DayText, read_rows_of
+from registry_tools.texts.rows import Rows
 
 # More of them are only counted.
 MOST_TOLD = 5
@@ -39,13 +40,13 @@ class Calendars:
         else:
             look_at_first_calendar(day, found)
         # (what was told of this calendar is not told of the next one, which is made of it)
-        before = (known for known in self.days if not new or known < new[0] or known > new[-1])
+        before = (date for date in self.days if not new or date < new[0] or date > new[-1])
         self.days = sorted({*before, *new})
 
     def compare(self, day: DayText, new: list[datetime.date], found: Findings) -> None:
         """The two agree from the later of their first days to the earlier of their last ones."""
         first, last = max(self.days[0], new[0]), min(self.days[-1], new[-1])
-        old_days, new_days = ({own for own in days if first <= own <= last} for days in (self.days, new))
+        old_days, new_days = ({date for date in days if first <= date <= last} for days in (self.days, new))
         for other in sorted(old_days ^ new_days):
             line = day.line_of(f"work,{new[bisect.bisect_left(new, other)]}")
             if other in new_days:
@@ -83,8 +84,8 @@ def look_at_first_calendar(day: DayText, found: Findings) -> None:
 def begins_late(day: DayText, date: datetime.date | str, why: str) -> FileFault:
     """That a calendar has to begin on a date, or before it."""
     days = day.head.working_days
-    there = f"a calendar that begins on {days[0]}" if days else "no calendar"
-    return FileFault(day.path, day.line_of_tag("work"), "work", there, f"the working days from {date} on: {why}")
+    has = f"a calendar that begins on {days[0]}" if days else "no calendar"
+    return FileFault(day.path, day.line_of_tag("work"), "work", has, f"the working days from {date} on: {why}")
 
 
 def delays(longer: rules.Day, head: rules.Day, proposed: datetime.date) -> bool:
@@ -106,9 +107,9 @@ def left_out(working_days: Sequence[datetime.date]) -> list[datetime.date]:
     """The weekdays without a `work` row between the first and the last one."""
     if not working_days:
         return []
-    there, first, last = {*working_days}, working_days[0], working_days[-1]
+    dates, first, last = {*working_days}, working_days[0], working_days[-1]
     every = (first + datetime.timedelta(place) for place in range((last - first).days))
-    return [day for day in every if day.weekday() in MONDAY_TO_FRIDAY and day not in there]
+    return [day for day in every if day.weekday() in MONDAY_TO_FRIDAY and day not in dates]
 
 
 def days_in_words(days: Sequence[datetime.date]) -> str:
@@ -120,23 +121,23 @@ def days_in_words(days: Sequence[datetime.date]) -> str:
 # The calendar of the next day.
 
 
-def next_calendar(day: DayText, path: str | None, notes: Notes) -> list[datetime.date]:
-    """The working days of the next day's text: those of the day, and those of a file of `work` rows. Raises FileFault
-    if the file has other rows."""
+def next_calendar(day: DayText, given: str | Rows | None, notes: Notes) -> list[datetime.date]:
+    """The working days of the next day's text: those of the day, and those of a file of `work` rows, or of rows that
+    were read. Raises FileFault if there are other rows."""
     old = day.head.working_days
-    if path is None:
+    if given is None:
         return old
-    source = read_rows_of("work", path, faults.Reading(last="lags"))
+    source = read_rows_of("work", given, faults.Reading(last="lags"))
     new = [datetime.date.fromisoformat(row.split(",")[1]) for row in source.rows]
     added = sorted({*new} - {*old})
     between = [date for date in added if old and date < old[-1]]
     if between:
-        place = f"{path}:{source.line(new.index(between[0]))}: {between[0]}"
+        place = f"{source.path}:{source.line(new.index(between[0]))}: {between[0]}"
         goes_on = f"whose calendar goes on to {old[-1]}: due days change"
         notes.warn(f"{place} was no working day in {day.path}, {goes_on}")
     notes.add(f"calendar: {len(added)} working days added, {len(new) - len(added)} repeated left out")
     every = sorted([*old, *added])
-    missing = [own for own in left_out(every) if not old or own > old[-1]]
+    missing = [date for date in left_out(every) if not old or date > old[-1]]
     if missing:
         notes.add(f"{LEFT_OUT}: {days_in_words(missing)}")
     return every

@@ -46,23 +46,23 @@ def days_of_ics(content: bytes) -> list[datetime.date]:
 
 def entries_of(lines: list[str]) -> Iterator[dict[str, str]]:
     """What the properties of each entry say, by their names."""
-    own: dict[str, str] | None = None
+    fields: dict[str, str] | None = None
     for line in lines:
         if line == "BEGIN:VEVENT":
-            own = {}
-        elif line == "END:VEVENT" and own is not None:
-            yield own
-            own = None
-        elif own is not None:
+            fields = {}
+        elif line == "END:VEVENT" and fields is not None:
+            yield fields
+            fields = None
+        elif fields is not None:
             name, _, value = line.partition(":")
-            own.setdefault(name.partition(";")[0].upper(), value)
+            fields.setdefault(name.partition(";")[0].upper(), value)
 
 
 def days_of_entry(entry: dict[str, str]) -> Iterator[datetime.date]:
     """The days of an entry: up to its end, which is the day behind its last one, if it is of whole days."""
     named = f"the entry {entry.get('SUMMARY', '')[:40]!r}"
     if "RRULE" in entry or "RDATE" in entry:
-        raise WordsFault(f"{named} comes again by a rule: save the calendar with each day as an entry of its own")
+        raise WordsFault(f"{named} comes again by a rule", "save the calendar with each day as an entry of its own")
     begin = day_said(entry.get("DTSTART", ""))
     if begin is None:
         raise WordsFault(f"{named} has no day: {NO_CALENDAR}")

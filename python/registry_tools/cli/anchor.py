@@ -12,9 +12,10 @@ import argparse
 
 from registry_tools.cli import words
 from registry_tools.elsewhere import Grown
-from registry_tools.office import kept_heads, folder
 from registry_tools.layout import must_not_be_of_folder
+from registry_tools.office import folder
 from registry_tools.output import write_answer
+from registry_tools.questions import kept_heads
 
 EXAMPLE = "./day anchor --to out/anchors.csv --office out/office"
 

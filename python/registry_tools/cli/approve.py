@@ -1,8 +1,9 @@
 """Approves what another login asked for, where office.ini asks for four eyes: a change by its place, or a close, undo,
-release or correct by its date. Without words it shows what waits for whom.
+release or correct by its date, or another office.ini by its event. Without words it shows what waits for whom.
 
   ./day approve 3                              the change at place 3, with all that was handed in with it
   ./day approve close --date 2025-09-24        the close that somebody asked for
+  ./day approve settings 57                    the office.ini that event 57 asks for (./day settings)
 
 An approval is of exactly what was asked for. A change counts from then on; a command is done when it is given again, by
 another login than the one that approves. If what it would do has changed by then, it waits once more.
@@ -16,7 +17,7 @@ from registry_tools import voice
 from registry_tools.calendars import dates
 from registry_tools.cli import words
 from registry_tools.errors import WordsFault
-from registry_tools.office import approvals, approve, change, folder
+from registry_tools.office import approvals, approve, change, folder, people, rewriting
 from registry_tools.office.approve import OF_DATES
 
 EXAMPLE = "./day approve --office out/office"
@@ -38,6 +39,12 @@ def run(said: argparse.Namespace) -> int:
         return show_waiting(said)
     if said.what[0] in OF_DATES:
         return command_approved(said)
+    if said.what[0] == people.REWRITE:
+        number = words.number_of_event(said.what[1:])
+        with folder.opened(said.office) as office:
+            event = rewriting.approve_rewrite(office, words.by(said, office), number)
+        print(f"approved: {event.name}: it is written")
+        return 0
     if said.date is not None:
         raise WordsFault("--date stands behind a command: a place needs none")
     with folder.opened(said.office) as office:
@@ -52,7 +59,8 @@ def show_waiting(said: argparse.Namespace) -> int:
     """Shows what waits for whom."""
     with folder.opened(said.office) as office:
         handed_in = approvals.handed_in_of(office)
-        lines = [own.line for own in approvals.all_waiting(office, handed_in)]
+        waits = approvals.all_waiting(office, handed_in)
+        lines = [line for each in waits for line in (f"{each.told}: {each.way}", *(f"    {row}" for row in each.rows))]
         for part in handed_in.waiting:
             rows = approve.rows_left(handed_in, part) + change.look_at_waiting(office, handed_in, part)
             lines += [f"  {part.start}: {part.name}", *(f"    {row}" for row in rows)]

@@ -47,11 +47,11 @@ def opened(said: argparse.Namespace) -> Iterator[Asked]:
     """The days that the words ask, as they are at one moment."""
     must_be_one_place(said)
     if said.pairs:
-        with contextlib.closing(days.of_pairs(days.pairs_named(said.pairs))) as own:
-            yield Asked(own, None, Labels())
+        with contextlib.closing(days.of_pairs(days.pairs_named(said.pairs))) as settled:
+            yield Asked(settled, None, Labels())
         return
-    with folder.opened(said.office) as office, days.at_one_moment(office.store) as own:
-        yield Asked(own, office, office.names())
+    with folder.opened(said.office) as office, days.at_one_moment(office.store) as settled:
+        yield Asked(settled, office, office.names())
 
 
 def must_be_one_place(said: argparse.Namespace) -> None:

@@ -33,7 +33,6 @@ from registry_tools.notes import LOOK
 from registry_tools.office import folder
 from registry_tools.questions import audit
 from registry_tools.questions.audit import Audit
-from registry_tools.store import file
 
 EXAMPLE = "./day audit --second --office out/office"
 COLUMNS = tables.COLUMNS["audit"]
@@ -60,10 +59,11 @@ def run(said: argparse.Namespace) -> int:
     rows = map(showing.fault_row, found.faults)
     told = [*map(str, found.faults), found.summary(), ""]
     answers.show_or_tell(said, COLUMNS, rows, lambda: "\n".join(told))
-    there, program = found.office.events, found.office.settings.program
-    for line in (*audit.engines_told(there, program), *audit.clock_told(there), *audit.people_told(there)):
+    events, program = found.office.events, found.office.settings.program
+    beside = *audit.clock_told(events), *audit.people_told(events), *found.rewrites
+    for line in (*audit.engines_told(events, program), *beside):
         print(line, file=sys.stderr)
-    if found.faults and file.has_changed(path, found.office.events):
+    if found.faults and audit.has_changed(path, found.office.events):
         meanwhile = f"another command changed {path} meanwhile, of which this may come: audit again"
         print(f"{LOOK}: {meanwhile}", file=sys.stderr)
     return FOUND if found.faults else 0

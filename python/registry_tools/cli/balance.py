@@ -22,7 +22,7 @@ def add_words(parser: argparse.ArgumentParser) -> None:
 def run(said: argparse.Namespace) -> int:
     """Runs the command, and answers the exit status."""
     on = asked.date_or("--on", said.on, None)
-    with asked.opened(said) as own:
-        rows = balance(own.days, asked.number_said("ACCOUNT", said.account, own.names), on)
-    answers.show(said, COLUMNS, asked.rows_shown(said, COLUMNS, rows, own.names))
+    with asked.opened(said) as opened:
+        rows = balance(opened.days, asked.number_said("ACCOUNT", said.account, opened.names), on)
+    answers.show(said, COLUMNS, asked.rows_shown(said, COLUMNS, rows, opened.names))
     return 0

@@ -44,19 +44,19 @@ def ask(desk: Desk, name: str, arguments: list[str], words: argparse.Namespace) 
         "files": [[file, None if isinstance(got, bytes) else [got.errno, got.strerror]] for file, got in sent],
     }  # fmt: skip
     try:
-        with connected(desk) as own, own.makefile("rb") as stream:
-            there = Answers(own, stream, words)
+        with connected(desk) as connection, connection.makefile("rb") as stream:
+            answers = Answers(connection, stream, words)
             first = frames.take(stream, MOST_BYTES)
             if first[0] == frames.GO:
                 # (a desk that takes no more of it says why)
                 with contextlib.suppress(Broken):
-                    frames.send(own, frames.WORDS, frames.said(told))
+                    frames.send(connection, frames.WORDS, frames.said(told))
                     for content in (got for _, got in sent if isinstance(got, bytes)):
-                        frames.send(own, frames.CONTENT, content)
+                        frames.send(connection, frames.CONTENT, content)
             else:
-                there.take(*first)
-            with there.heard():
-                return there.follow()
+                answers.take(*first)
+            with answers.heard():
+                return answers.follow()
     except Broken as fault:
         left = f"the desk at {desk.path} told no end: {fault}. It may have done it: look before you give it again"
         print(left, file=sys.stderr)
@@ -75,22 +75,22 @@ def read_here(path: str) -> bytes | OSError:
 def connected(desk: Desk) -> Iterator[socket.socket]:
     """A connection to the socket of commands of a desk, for the block. Raises WordsFault, also if somebody else answers
     there than may."""
-    with socket.socket(socket.AF_UNIX) as own:
+    with socket.socket(socket.AF_UNIX) as connection:
         try:
-            own.connect(f"{desk.path}{COMMANDS}")
+            connection.connect(f"{desk.path}{COMMANDS}")
         except (OSError, ValueError) as error:
             raise WordsFault(f"the desk at {desk.path}: nobody answers there: {shown(str(error))}") from None
-        there = frames.user_at(own)
-        if desk.owner is not None and there not in (desk.owner, 0):
-            raise WordsFault(f"the desk at {desk.path}: {people.login_of(there)} answers there, and not its owner")
-        yield own
+        user = frames.user_at(connection)
+        if desk.owner is not None and user not in (desk.owner, 0):
+            raise WordsFault(f"the desk at {desk.path}: {people.login_of(user)} answers there, and not its owner")
+        yield connection
 
 
 class Answers:
     """What comes back of a command, as it comes."""
 
-    def __init__(self, own: socket.socket, stream: BinaryIO, words: argparse.Namespace) -> None:
-        self.own, self.stream = own, stream
+    def __init__(self, connection: socket.socket, stream: BinaryIO, words: argparse.Namespace) -> None:
+        self.connection, self.stream = connection, stream
         self.may_write = {*words_of_files(words, Target), *words_of_files(words, NewPlace)}
         self.folder: NewFolder | None = None
         self.status: int | None = None
@@ -116,7 +116,7 @@ class Answers:
             raise KeyboardInterrupt
         self.is_stopped = True
         with contextlib.suppress(OSError):
-            frames.send(self.own, frames.STOP)
+            frames.send(self.connection, frames.STOP)
 
     def follow(self) -> int:
         """Shows and writes what comes, and answers the status. Raises FileFault if a file cannot be written here."""
@@ -153,7 +153,7 @@ class Answers:
         elif kind == frames.INSIDE:
             made.write_bytes(inside(content), self.content())
         elif kind == frames.ALL:
-            frames.send(self.own, frames.THERE)
+            frames.send(self.connection, frames.THERE)
         elif kind == frames.KEEP:
             self.folder = None
             made.__exit__(None, None, None)

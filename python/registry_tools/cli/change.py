@@ -38,16 +38,16 @@ def add_words(parser: argparse.ArgumentParser) -> None:
     """Tells a parser the words of the command."""
     account = "the account that is changed, by its number or its name"
     parser.add_argument("account", metavar="ACCOUNT", nargs="?", help=account)
-    own = parser.add_argument_group("of the account")
+    group = parser.add_argument_group("of the account")
     adds = "+USER:RIGHT adds or changes a representative, -USER leaves one out"
-    own.add_argument("--user", metavar="±USER:RIGHT", nargs=1, default=[], help=adds)
+    group.add_argument("--user", metavar="±USER:RIGHT", nargs=1, default=[], help=adds)
     factor = "a correction factor; an empty VALUE leaves it out"
-    own.add_argument("--correction", metavar="PERIOD:VALUE", nargs=1, default=[], help=factor)
-    own.add_argument("--holder", metavar="N", help="another holder")
-    own.add_argument("--outside", choices=tables.YES_NO, help="transfers outside the trusted list")
-    own.add_argument("--waiver", choices=tables.YES_NO, help="waiver of approval")
+    group.add_argument("--correction", metavar="PERIOD:VALUE", nargs=1, default=[], help=factor)
+    group.add_argument("--holder", metavar="N", help="another holder")
+    group.add_argument("--outside", choices=tables.YES_NO, help="transfers outside the trusted list")
+    group.add_argument("--waiver", choices=tables.YES_NO, help="waiver of approval")
     wrong = "emissions:YEAR or figure:YEAR, of a wrong year or account"
-    own.add_argument("--leave-out", metavar="ROW:YEAR", nargs=1, default=[], help=wrong)
+    group.add_argument("--leave-out", metavar="ROW:YEAR", nargs=1, default=[], help=wrong)
     rules = parser.add_argument_group("of the rules, and new accounts")
     rules.add_argument("--open-account", metavar="NUMBER,KIND,HOLDER", nargs=1, default=[], help="opens an account")
     rules.add_argument("--admin", metavar="±USER", nargs=1, default=[], help="an administrator")

@@ -45,11 +45,14 @@ def add_words(parser: argparse.ArgumentParser) -> None:
 def run(said: argparse.Namespace) -> int:
     """Runs the command, and answers the exit status."""
     if said.day is not None and said.date is not None:
-        raise WordsFault(f"the day stands twice, as {said.day} and as {voice.option('date', said.date)}: name it once")
+        twice = f"the day stands twice, as {said.day} and as {voice.option('date', said.date)}"
+        raise WordsFault(twice, "name it once")
     named = said.day if said.date is None else said.date
     date = None if named is None else dates.date_of(voice.option("date"), named)
     with folder.opened(said.office) as office:
-        hooks.must_be_safe(office)
+        has_program = bool(office.settings.after_close)
+        if has_program:
+            hooks.must_be_safe(office)
         came = closing.close(office, words.by(said, office), Close(date, said.second, said.verify, said.yes))
         if isinstance(came, AskedFor):
             return words.tell_asked_for(came)
@@ -61,30 +64,30 @@ def run(said: argparse.Namespace) -> int:
         print("\n".join([*summary(came.outcome, said.second), *came.left]))
         papers.make_papers(office, came.event)
         sys.stdout.flush()
-        for line in hooks.after_close(office, came.event):
+        for line in hooks.after_close(office, came.event) if has_program else ():
             words.to_errors(line)
     return 0
 
 
-def summary(own: Outcome, by_second: bool) -> list[str]:
+def summary(outcome: Outcome, by_second: bool) -> list[str]:
     """What is told at the end."""
-    first, last = own.first, own.next - 1
+    first, last = outcome.first, outcome.next - 1
     records = "no records" if first > last else f"record {first}" if first == last else f"records {first} to {last}"
     how = " by the second answer" if by_second else ""
-    lines = [*own.notes, f"{own.date} is settled{how} and filed: {records}, done {own.done}"]
-    lines += [f"refused {count}: {name}: {checks_told()[name].meaning}" for name, count in own.refused.items()]
-    lines.append(f"waiting: {own.waiting}")
+    lines = [*outcome.notes, f"{outcome.date} is settled{how} and filed: {records}, done {outcome.done}"]
+    lines += [f"refused {count}: {name}: {checks_told()[name].meaning}" for name, count in outcome.refused.items()]
+    lines.append(f"waiting: {outcome.waiting}")
     for kind in rules.KINDS:
-        pairs = zip(Sums._fields, own.before[kind], own.after[kind])
+        pairs = zip(Sums._fields, outcome.before[kind], outcome.after[kind])
         lines.append(f"{kind}: {', '.join(f'{name} {before_and_after(old, new)}' for name, old, new in pairs)}")
-    return [*lines, *compliant_told(own)]
+    return [*lines, *compliant_told(outcome)]
 
 
-def compliant_told(own: Outcome) -> list[str]:
+def compliant_told(outcome: Outcome) -> list[str]:
     """How many operators are compliant, in a line, if a year is over."""
-    if own.compliant is None:
+    if outcome.compliant is None:
         return []
-    year, share, count = own.compliant
+    year, share, count = outcome.compliant
     return [f"compliant for {year}: {share} of {count} accounts of operators and aircraft operators"]
 
 

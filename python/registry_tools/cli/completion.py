@@ -66,10 +66,10 @@ def words_behind(words: Sequence[str]) -> list[str]:
     parser = main.parser_of(name, main.module_of(name), named_day.is_named(name, [*line[1:-1]]))
     if current.startswith("-"):
         return parsers.options_of(parser)
-    option = next((own for own in parser._actions if line[-2] in own.option_strings), None)  # noqa: SLF001
-    positional = [own for own in parser._actions if not own.option_strings]  # noqa: SLF001
+    option = next((action for action in parser._actions if line[-2] in action.option_strings), None)  # noqa: SLF001
+    positional = [action for action in parser._actions if not action.option_strings]  # noqa: SLF001
     asked = [option] if option is not None and option.nargs != 0 else positional
-    return [*dict.fromkeys(word for own in asked for word in values_of(own, current, [*before, *line]))]
+    return [*dict.fromkeys(word for action in asked for word in values_of(action, current, [*before, *line]))]
 
 
 def values_of(action: argparse.Action, begin: str, line: Sequence[str]) -> Iterator[str]:
@@ -94,8 +94,8 @@ def folder_in(line: Sequence[str]) -> str | None:
     parser = argparse.ArgumentParser(add_help=False, allow_abbrev=False)
     parser.add_argument("-C", dest="place", default="")
     parser.add_argument("--office")
-    said, _ = parser.parse_known_args(line[:-1])
-    return said.office if said.office is None and not said.place else str(Path(said.place, said.office or ""))
+    given, _ = parser.parse_known_args(line[:-1])
+    return given.office if given.office is None and not given.place else str(Path(given.place, given.office or ""))
 
 
 # What shells read.
@@ -191,7 +191,8 @@ def fish_of_run(called: str, of: dict[str, list[str]]) -> str:
     first = FISH_RUN.format(called=called, when="__fish_is_first_arg", words=" ".join([*of, "--help"]))
     others = ((name, " ".join(words)) for name, words in of.items() if words)
     seen = "__fish_seen_subcommand_from {}"
-    return first + "".join(FISH_RUN.format(called=called, when=seen.format(own), words=words) for own, words in others)
+    rows = (FISH_RUN.format(called=called, when=seen.format(name), words=words) for name, words in others)
+    return first + "".join(rows)
 
 
 def files() -> dict[str, str]:

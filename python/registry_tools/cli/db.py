@@ -24,7 +24,7 @@ def add_words(parser: argparse.ArgumentParser) -> None:
 def run(said: argparse.Namespace) -> int:
     """Runs the command, and answers the exit status."""
     must_be_writable(said.file)
-    with asked.opened(said) as own:
-        made = db.make(own.days, said.file)
+    with asked.opened(said) as opened:
+        made = db.make(opened.days, said.file)
     print(f"{said.file}: days {made.days}, of which {made.added} are new")
     return 0

@@ -31,18 +31,18 @@ class Desk(NamedTuple):
 def desk_for(name: str, words: argparse.Namespace, named: str | None) -> Desk | None:
     """The desk that carries a command out: the named one, or the one that office.ini of the named folder tells to
     whoever may not write there, or that of the variable; nothing, if it is done here. Raises WordsFault."""
-    own = getattr(words, "office", None) or getattr(words, "_office", None)
+    folder = getattr(words, "office", None) or getattr(words, "_office", None)
     if named is not None:
         if name in NOT_THERE:
             raise not_there(name, "--desk")
-        if own is not None:
+        if folder is not None:
             raise WordsFault("--desk stands in place of --office")
         return Desk(named) if takes_folder(words) else None
     if name in BY_THEMSELVES or not takes_folder(words):
         return None
-    is_in_folder = own is None and os.path.isfile(SETTINGS)
-    known = None if own is not None or is_in_folder else os.environ.get(VARIABLE)
-    found = Desk(known) if known else desk_of_folder(own)
+    is_in_folder = folder is None and os.path.isfile(SETTINGS)
+    path = None if folder is not None or is_in_folder else os.environ.get(VARIABLE)
+    found = Desk(path) if path else desk_of_folder(folder)
     if found and name in NOT_THERE:
         raise not_there(name, f"by the desk at {found.path}")
     return found

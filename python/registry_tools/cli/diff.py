@@ -40,7 +40,7 @@ def run(said: argparse.Namespace) -> int:
         raise WordsFault(f"found {len(dates)} dates; expected two")
     with sides_of_pairs(said, dates) if said.pairs else sides_of_folders(said, dates) as (first, second, names):
         found = diff.differences_of_days(first, second)
-        rows = [[own.what, own.account, own.field, own.first, own.second] for own in found]
+        rows = [[each.what, each.account, each.field, each.first, each.second] for each in found]
     shown = asked.rows_shown(said, COLUMNS, rows, names)
     as_table = showing.as_table(COLUMNS.names, shown, COLUMNS.numbers)
     answers.show_or_tell(said, COLUMNS, shown, lambda: as_table if rows else f"alike: {first.date} and {second.date}\n")
@@ -68,18 +68,18 @@ def sides_of_folders(said: argparse.Namespace, dates: Sequence[datetime.date]) -
         raise WordsFault(f"found {len(dates)} dates; expected two, or {voice.option('with', 'FOLDER')}")
     with contextlib.ExitStack() as open_ones:
         office = open_ones.enter_context(folder.opened(said.office))
-        own = other = open_ones.enter_context(days.at_one_moment(office.store))
+        one = other = open_ones.enter_context(days.at_one_moment(office.store))
         if said.beside is not None:
             beside = open_ones.enter_context(folder.opened(said.beside))
             other = open_ones.enter_context(days.at_one_moment(beside.store))
-        first, second = side_of(own, dates[:1], office.path), side_of(other, dates[-1:], said.beside or office.path)
+        first, second = side_of(one, dates[:1], office.path), side_of(other, dates[-1:], said.beside or office.path)
         yield first, second, office.names()
 
 
-def side_of(own: Days, dates: Sequence[datetime.date], path: object) -> Side:
+def side_of(settled: Days, dates: Sequence[datetime.date], path: object) -> Side:
     """A day by its date, or the last one. Raises WordsFault if there is none."""
-    date = [*own.dates, *dates][-1] if own.dates else None
-    if date is None or date not in own.pairs:
-        there = f"days from {own.dates[0]} to {own.dates[-1]}" if own.dates else "no settled day"
-        raise WordsFault(f"{date or 'a day'}: {path} has {there}, and not this one")
-    return Side(own, date)
+    date = [*settled.dates, *dates][-1] if settled.dates else None
+    if date is None or date not in settled.pairs:
+        which = f"days from {settled.dates[0]} to {settled.dates[-1]}" if settled.dates else "no settled day"
+        raise WordsFault(f"{date or 'a day'}: {path} has {which}, and not this one")
+    return Side(settled, date)

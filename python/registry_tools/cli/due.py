@@ -47,6 +47,6 @@ def run(said: argparse.Namespace) -> int:
         new_file(said.ics, due.as_calendar(found, until)).keep()
         print(f"{said.ics}: entries {len(found)}")
         return 0
-    rows = [own.cells() for own in (found if answers.is_for_programs(said) else due.folded(found))]
+    rows = [task.cells() for task in (found if answers.is_for_programs(said) else due.folded(found))]
     answers.show(said, COLUMNS, asked.rows_shown(said, COLUMNS, rows, names))
     return 0

@@ -45,26 +45,26 @@ def add_words(parser: argparse.ArgumentParser) -> None:
 def run(said: argparse.Namespace) -> int:
     """Runs the command, and answers the exit status."""
     asked.span_of(said)
-    with asked.opened(said) as own:
-        wanted = find_of(said, own)
-        meant = find.accounts_meant(own.days, wanted)
-        rows = [cells for logged in find.find(own.days, wanted) for cells in find.cells_of(logged, meant)]
-    shown = asked.rows_shown(said, COLUMNS, rows, own.names)
+    with asked.opened(said) as opened:
+        wanted = find_of(said, opened)
+        meant = find.accounts_meant(opened.days, wanted)
+        rows = [cells for logged in find.find(opened.days, wanted) for cells in find.cells_of(logged, meant)]
+    shown = asked.rows_shown(said, COLUMNS, rows, opened.names)
     answers.show_or_tell(said, COLUMNS, shown, lambda: told_of(shown, said.refused))
     return 0 if rows else FOUND
 
 
-def find_of(said: argparse.Namespace, own: Asked) -> Find:
+def find_of(said: argparse.Namespace, opened: Asked) -> Find:
     """What the words look for. Raises WordsFault if nothing has a name that they say."""
-    account = asked.number_or_none("--account", said.account, own.names)
-    user = asked.number_or_none("--user", said.user, own.names, USER)
+    account = asked.number_or_none("--account", said.account, opened.names)
+    user = asked.number_or_none("--user", said.user, opened.names, USER)
     begin, end = asked.span_of(said)
     wanted = Find(account, None, user, said.act, said.refused, said.no_waiting, begin, end)
     if said.name is None:
         return wanted
     if said.pairs:
         raise WordsFault("--name is for a folder: paths have no names")
-    label = own.names.one(said.name)
+    label = opened.names.one(said.name)
     if getattr(wanted, label.kind) not in (None, int(label.number)):
         raise WordsFault(f"--name {said.name} is {label}, and --{label.kind} another one")
     return replace(wanted, **{label.kind: int(label.number)})
@@ -73,5 +73,5 @@ def find_of(said: argparse.Namespace, own: Asked) -> Find:
 def told_of(rows: Sequence[Sequence[Cell]], has_whys: bool) -> str:
     """What people are told of these rows; of each check that refused one, also what it means and what to do."""
     outcomes = [str(row[COLUMNS.names.index("outcome")]) for row in rows]
-    why = [f"{name}: {said}\n" for name, said in meanings(outcomes).items()] if has_whys else []
+    why = [f"{name}: {meaning}\n" for name, meaning in meanings(outcomes).items()] if has_whys else []
     return "".join([showing.as_table(COLUMNS.names, rows, COLUMNS.numbers), *why])

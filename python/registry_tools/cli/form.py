@@ -63,13 +63,13 @@ def columns_told(what: str) -> Iterator[tuple[str, str]]:
     elif what == INSTRUCTIONS:
         yield from ((name, name_told(name)) for name in columns.INSTRUCTION_COLUMNS)
     else:
-        own = [*columns.PROPOSAL, *columns.columns_of_act(what)]
-        yield from ((name, what if name == "act" else name_told(name)) for name in own)
+        names = [*columns.PROPOSAL, *columns.columns_of_act(what)]
+        yield from ((name, what if name == "act" else name_told(name)) for name in names)
 
 
 def name_told(name: str) -> str:
     """What stands in a column of instructions."""
-    fields = {field.name.lower(): field for own in (faults.PROPOSAL, *faults.ACTS.values()) for field in own}
+    fields = {field.name.lower(): field for row in (faults.PROPOSAL, *faults.ACTS.values()) for field in row}
     if name == "act":
         return f"one of {', '.join(faults.ACT_WORDS)}"
     field = fields[name.rstrip("2345678")]

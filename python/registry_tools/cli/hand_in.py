@@ -48,8 +48,8 @@ def run(said: argparse.Namespace) -> int:
     with folder.opened(said.office) as office:
         added = hand_in.hand_in(office, words.by(said, office), asked)
     for part in added.parts:
-        count, there = f"{intake.NAMES[part.kind]} {part.count}", places(part.start, part.end)
-        print(f"handed in: {part.name}: {count}, {there}")
+        count, where = f"{intake.NAMES[part.kind]} {part.count}", places(part.start, part.end)
+        print(f"handed in: {part.name}: {count}, {where}")
     print("".join(f"{line}\n" for line in (*added.hidden, *added.waits)), end="")
     print("".join(f"again: {line}\n" for line in added.again), end="")
     return trial.tell(added.looked, added.next_day, added.places())

@@ -22,12 +22,12 @@ def add_words(parser: argparse.ArgumentParser) -> None:
 
 def run(said: argparse.Namespace) -> int:
     """Runs the command, and answers the exit status."""
-    with asked.opened(said) as own:
-        account = asked.number_said("ACCOUNT", said.account, own.names)
-        if not own.days.dates:
+    with asked.opened(said) as opened:
+        account = asked.number_said("ACCOUNT", said.account, opened.names)
+        if not opened.days.dates:
             raise WordsFault("no day is settled yet")
-        names = Labels() if answers.is_for_programs(said) else own.names
-        rows = history(own.days, account, names.account)
+        names = Labels() if answers.is_for_programs(said) else opened.names
+        rows = history(opened.days, account, names.account)
     if not rows:
         raise WordsFault(f"no day has had an account {account}")
     answers.show(said, COLUMNS, rows)

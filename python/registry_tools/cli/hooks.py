@@ -28,32 +28,30 @@ def must_be_safe(office: Office) -> None:
 
 
 def after_close(office: Office, filed: Event) -> list[str]:
-    """Runs the program that office.ini names, if it names one, behind a day that is filed. Answers what it says, and
-    that it went wrong, if it did: the day stays filed."""
+    """Runs the program that office.ini names behind a day that is filed. Answers what it says, and that it went wrong,
+    if it did: the day stays filed."""
     program = office.settings.after_close
-    if not program:
-        return []
     # (the day is filed: an interrupt from here on is one of the program, which may hang)
     steps.let_go()
     try:
         must_be_safe(office)
-        status, said = run(program, office, filed)
+        status, lines = run(program, office, filed)
     except OSError as error:
         return [wrong(program, filed, f"cannot be run: {error.strerror}")]
     except FileFault as fault:
         return [wrong(program, filed, f"is not run: {fault}")]
     except KeyboardInterrupt:
         return [wrong(program, filed, "was interrupted")]
-    return said if not status else [*said, wrong(program, filed, f"ends with status {status}")]
+    return lines if not status else [*lines, wrong(program, filed, f"ends with status {status}")]
 
 
 def run(program: str, office: Office, filed: Event) -> tuple[int, list[str]]:
     """Runs it, and answers its status and the lines that it said. Raises OSError."""
-    known = {**os.environ, VARIABLE: str(office.path.resolve())}
+    environment = {**os.environ, VARIABLE: str(office.path.resolve())}
     # (a file: what it leaves at work in a pipe would have to end, too)
     with tempfile.TemporaryFile() as told:
         status = subprocess.run(
-            [program, str(filed.date), office.state()], env=known, stdin=subprocess.DEVNULL, stdout=told,
+            [program, str(filed.date), office.state()], env=environment, stdin=subprocess.DEVNULL, stdout=told,
             stderr=subprocess.STDOUT, check=False,
         ).returncode  # fmt: skip
         told.seek(0)

@@ -76,8 +76,8 @@ def preview(rows: list[str], are_accounts: bool) -> None:
         print(f"accounts {count}, rows {len(rows)}", file=sys.stderr)
         return
     for row in rows[:MOST_SHOWN]:
-        _, proposed, proposer, approver, act, *own = row.split(",")
+        _, proposed, proposer, approver, act, *fields = row.split(",")
         approval = f", approved by {approver}" if approver else ""
-        print(f"{in_words.words_of(act, own)}, proposed on {proposed} by {proposer}{approval}", file=sys.stderr)
+        print(f"{in_words.words_of(act, fields)}, proposed on {proposed} by {proposer}{approval}", file=sys.stderr)
     more = f", of which {MOST_SHOWN} are shown" if len(rows) > MOST_SHOWN else ""
     print(f"instructions {len(rows)}{more}", file=sys.stderr)

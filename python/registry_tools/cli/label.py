@@ -54,9 +54,9 @@ def run(said: argparse.Namespace) -> int:
     must_fit(said)
     if not said.named and said.file is None:
         with folder.opened(said.office) as office:
-            there = office.names().named.values()
-        rows = sorted(there, key=lambda own: (own.kind, int(own.number)))
-        answers.show(said, LISTED, [cells_of(said, own) for own in rows])
+            labels = office.names().named.values()
+        rows = sorted(labels, key=lambda label: (label.kind, int(label.number)))
+        answers.show(said, LISTED, [cells_of(said, label) for label in rows])
         return 0
     if said.why is None:
         raise WordsFault("--why is needed: it is kept with the name")
@@ -70,7 +70,7 @@ def run(said: argparse.Namespace) -> int:
 def must_fit(said: argparse.Namespace) -> None:
     """Ends the command if its words do not fit together."""
     if said.named and said.file is not None:
-        raise WordsFault("a file says itself who is named how: leave out KIND NUMBER NAME")
+        raise WordsFault("a file says itself who is named how", "leave out KIND NUMBER NAME")
     if said.remove and len(said.named) != 2:
         raise WordsFault("--remove takes KIND NUMBER alone")
     if said.named and not said.remove and len(said.named) < 3:
@@ -79,34 +79,34 @@ def must_fit(said: argparse.Namespace) -> None:
         raise WordsFault("--mapping is for --file")
     if not said.named and said.file is None:
         if said.why is not None:
-            raise WordsFault("--why is for a change: name something, by KIND NUMBER NAME or --file")
+            raise WordsFault("--why is for a change", "name something, by KIND NUMBER NAME or --file")
     elif answers.is_for_programs(said) or said.to is not None:
         raise WordsFault("--csv, --json and --to are for the list of names")
 
 
-def cells_of(said: argparse.Namespace, own: Label) -> list[showing.Cell]:
+def cells_of(said: argparse.Namespace, label: Label) -> list[showing.Cell]:
     """The columns of the list."""
-    name = own.name if answers.is_for_programs(said) else namebook.in_sight(own.name)
-    more = (own.at or None, own.who or None, own.why or None)
-    return [own.kind, int(own.number), name, *more]
+    name = label.name if answers.is_for_programs(said) else namebook.in_sight(label.name)
+    more = (label.at or None, label.who or None, label.why or None)
+    return [label.kind, int(label.number), name, *more]
 
 
 def asked_of(said: argparse.Namespace) -> Iterator[Label]:
     """The names that the words ask for, or those of the file."""
     if said.file is not None:
-        (own,) = files.given([said.file], said.called)
-        yield from names_in(own, said.mapping)
+        (given,) = files.given([said.file], said.called)
+        yield from names_in(given, said.mapping)
     else:
         kind, number, *name = said.named
         yield one_name(kind, number, " ".join(name), said.remove)
 
 
-def names_in(own: Given, mapping: str | None) -> Iterator[Label]:
+def names_in(given: Given, mapping: str | None) -> Iterator[Label]:
     """The names of a file: rows as labels.csv has them, or a table."""
-    path, content = own.told, packed_bytes_of(own.path)
+    path, content = given.told, packed_bytes_of(given.path)
     start = content[: len(max(KINDS, key=len)) + 4].decode("utf-8-sig", "replace")
     if mapping is None and start.lstrip().startswith(tuple(f"{kind}," for kind in KINDS)):
-        source = rows_of_text(path, text_handed_in(own, content).decode("utf-8-sig", "surrogateescape"))
+        source = rows_of_text(path, text_handed_in(given, content).decode("utf-8-sig", "surrogateescape"))
         for place, named in enumerate(namebook.rows_in(source)):
             tidy = named._replace(name=namebook.tidy(named.name))
             found, expected = label.wrong_part(tidy, may_lack=True)
@@ -114,26 +114,26 @@ def names_in(own: Given, mapping: str | None) -> Iterator[Label]:
                 raise source.fault(place, "NAME", shown(found), expected)
             yield tidy
         return
-    known = mappings.read(mapping, COLUMNS) if mapping is not None else Mapping()
-    table = Table(sheets.read_content(path, content), COLUMNS, None, known)
+    forms = mappings.read(mapping, COLUMNS) if mapping is not None else Mapping()
+    table = Table(sheets.read_content(path, content), COLUMNS, None, forms)
     made = [*importing.found_in(names_of_table(table))]
-    wrong = [own for own in made if isinstance(own, FileFault)]
+    wrong = [label for label in made if isinstance(label, FileFault)]
     if wrong:
         raise TableFault(path, wrong, "no name was changed")
-    yield from (own for own in made if isinstance(own, Label))
+    yield from (label for label in made if isinstance(label, Label))
 
 
 def names_of_table(table: Table) -> Iterator[Label | FileFault]:
     """The name of each row, or what is wrong with it."""
     wrong = [*table.wrong_heading()]
     yield from wrong
-    there: dict[tuple[str, str], int] = {}
-    for number, own in () if wrong else table.rows():
-        said = table.with_always(own)
-        named = Label(said.get("kind", ""), said.get("number", ""), namebook.tidy(said.get("name", "")))
+    lines: dict[tuple[str, str], int] = {}
+    for number, cells in () if wrong else table.rows():
+        values = table.with_always(cells)
+        named = Label(values.get("kind", ""), values.get("number", ""), namebook.tidy(values.get("name", "")))
         found, expected = label.wrong_part(named, may_lack="name" in table.columns)
-        name = next((name for name in COLUMNS if said.get(name, "") == found), "name")
-        first = there.setdefault(named[:2], number)
+        name = next((name for name in COLUMNS if values.get(name, "") == found), "name")
+        first = lines.setdefault(named[:2], number)
         if expected:
             yield table.fault(number, name, shown(found), expected)
         elif first != number:
@@ -144,8 +144,8 @@ def names_of_table(table: Table) -> Iterator[Label | FileFault]:
 
 def lines_of(named: Named) -> Iterator[str]:
     """What was named how."""
-    for own in named.new:
-        old = named.before.named.get((own.kind, own.number))
-        was = f", which was {namebook.in_sight(old.name)}" if old and own.name else ""
+    for label in named.new:
+        old = named.before.named.get((label.kind, label.number))
+        was = f", which was {namebook.in_sight(old.name)}" if old and label.name else ""
         gone = f"{namebook.in_sight(old.name)} no more" if old else ""
-        yield f"labelled: {own.kind} {own.number}: {own.name or gone}{was}"
+        yield f"labelled: {label.kind} {label.number}: {label.name or gone}{was}"

@@ -67,15 +67,15 @@ def run(said: argparse.Namespace) -> int:
 
 def ask(path: str, what: str) -> re.Match[str]:
     """What the desk answers at the socket of links. (Whoever listens there in its place has nothing else printed.)"""
-    own = Connection(f"{path}{LINKS}")
+    connection = Connection(f"{path}{LINKS}")
     try:
-        own.request("POST", what, headers={"Content-Length": "0"})
-        answer = own.getresponse()
+        connection.request("POST", what, headers={"Content-Length": "0"})
+        answer = connection.getresponse()
         found = ANSWERS[what].fullmatch(answer.read(MOST_BYTES).decode("utf-8", "replace"))
     except (OSError, http.client.HTTPException) as error:
         raise WordsFault(f"--socket {path}: no desk answers there: {shown(str(error))}") from None
     finally:
-        own.close()
+        connection.close()
     if answer.status != http.client.OK:
         raise WordsFault(f"--socket {path}: the desk does not know this login, or answers otherwise: {answer.status}")
     if found is None:

@@ -43,6 +43,7 @@ OFFICE_COMMANDS = {
     "change": "changes an account or the rules by hand, as a difference, or opens an account",
     "changes": "lists the changes by hand",
     "label": "names users, holders and accounts, or lists the names",
+    "settings": "asks for another office.ini, which a second login approves, or shows what it says",
     "take-back": "takes something back that was handed in",
     "try": "shows what would come of the next day as it stands",
     "close": "settles the next day and files it",
@@ -116,9 +117,9 @@ def help_text() -> str:
     """The help of all commands."""
     width = max(map(len, [*COMMANDS, *OFFICE_COMMANDS]))
     lines = [f"  {name.ljust(width)}  {what}\n" for name, what in COMMANDS.items()]
-    own = [f"  {name.ljust(width)}  {what}\n" for name, what in OFFICE_COMMANDS.items()]
+    of_office = [f"  {name.ljust(width)}  {what}\n" for name, what in OFFICE_COMMANDS.items()]
     of_folder = "\nIn a folder that remembers its days, or with --office FOLDER:\n\n"
-    return streams.in_help("".join([HEAD, *lines, of_folder, *own, TAIL]))
+    return streams.in_help("".join([HEAD, *lines, of_folder, *of_office, TAIL]))
 
 
 def perhaps_meant(word: str) -> str:
@@ -135,7 +136,8 @@ def parser_of(name: str, module: Command, names_day: bool = False) -> Words:
     example = f"example:\n  {module.EXAMPLE}"
     parser = Words(names_day, prog=voice.TERMINAL.command(name), description=module.__doc__, epilog=example)
     module.add_words(parser)
-    named_day.add_words(name, parser)
+    if name in named_day.TAKES:
+        named_day.add_words(name, parser)
     return parser
 
 
@@ -150,7 +152,8 @@ def run(name: str, arguments: list[str], desk: str | None = None) -> int:
     module = module_of(name)
 
     def given() -> int:
-        words = parser_of(name, module, named_day.is_named(name, arguments)).parse_args(arguments)
+        may_name = name in named_day.TAKES
+        words = parser_of(name, module, may_name and named_day.is_named(name, arguments)).parse_args(arguments)
         carrier = desks.desk_for(name, words, desk)
         if carrier is not None:
             # (most commands go to no desk)
@@ -158,7 +161,7 @@ def run(name: str, arguments: list[str], desk: str | None = None) -> int:
 
             look_at_files(words)
             return calling.ask(carrier, name, arguments, words)
-        with named_day.looked_up(name, words):
+        with named_day.looked_up(name, words) if may_name else contextlib.nullcontext():
             look_at_files(words)
             return module.run(words)
 
@@ -236,7 +239,8 @@ def main(arguments: list[str]) -> int:
         print(help_text(), end="", file=sys.stderr)
         return 2
     desk = arguments[1] if arguments[0] == BY_DESK and arguments[2:] else None
-    name, *rest = behind_command(arguments if desk is None else arguments[2:]) or [""]
+    words = arguments if desk is None else arguments[2:]
+    name, *rest = (behind_command(words) if words[0].startswith(OFFICE) else words) or [""]
     if not name:
         print(f"{tool}: there is no command behind {' '.join(arguments)}", file=sys.stderr)
         return 2

@@ -113,8 +113,8 @@ def page_of_command(command: str) -> Iterator[str]:
     yield "\n.PP\n".join(block_of(each) for each in told if not each.startswith(STATUS))
     yield ".SH OPTIONS"
     yield from options_of(parser)
-    own = [f"{each.removeprefix(STATUS)}\n" for each in told if each.startswith(STATUS)]
-    yield f".SH EXIT STATUS\n{''.join(map(filled, own)) or as_it_stands(parsers.STATUSES)}"
+    statuses = [f"{each.removeprefix(STATUS)}\n" for each in told if each.startswith(STATUS)]
+    yield f".SH EXIT STATUS\n{''.join(map(filled, statuses)) or as_it_stands(parsers.STATUSES)}"
     examples = streams.in_help(parser.epilog or "").removeprefix("example:\n")
     yield f".SH EXAMPLES\n{as_it_stands(textwrap.dedent(examples).rstrip())}"
     pages = [("registry", 1), ("registry-day-text", 5)] if is_installed() else []
@@ -147,8 +147,8 @@ def page_of_run() -> Iterator[str]:
     yield head(RUN, 1, "The settlement program", "runs the settlement program on a day text")
     yield ".SH SYNOPSIS\n.B ./run\n.I COMMAND\n.RI [ words ]\n< DAY"
     lines = SCRIPT.read_text(encoding="utf-8").splitlines()
-    own = itertools.takewhile(lambda line: line.startswith("#"), lines[1:])
-    text = "\n".join(line.removeprefix("#").removeprefix(" ") for line in own)
+    comments = itertools.takewhile(lambda line: line.startswith("#"), lines[1:])
+    text = "\n".join(line.removeprefix("#").removeprefix(" ") for line in comments)
     yield f".SH DESCRIPTION\n{as_it_stands(text.strip())}"
     for name, text in parsers.helps_of_run().items():
         yield f".SH {as_roff(name.upper() or 'WORDS')}\n{as_it_stands(text.rstrip())}"

@@ -33,8 +33,8 @@ def run(said: argparse.Namespace) -> int:
     wanted = Month(*asked.span_of(said), said.year, asked.date_or("--deadline", said.deadline, None))
     if any(is_same_file(path, said.file) for path in said.pairs or ()):
         raise WordsFault(f"{said.file} is one of the files that the command reads")
-    with asked.opened(said) as own:
-        lead, text = month.page_of(own.days, own.office, own.names, wanted)
+    with asked.opened(said) as opened:
+        lead, text = month.page_of(opened.days, opened.office, opened.names, wanted)
     new_file(said.file, text).keep()
     print(f"{said.file}: days {lead.removeprefix('Days: ').partition('.')[0]}")
     return 0

@@ -14,5 +14,5 @@ def add_words(parser: argparse.ArgumentParser) -> None:
 
 def labels_of(said: argparse.Namespace) -> Labels:
     """The names of the file that the word names, or of the folder whose day was named; without one none."""
-    own: Labels | None = getattr(said, "names", None)
-    return namebook.read(said.labels) if said.labels is not None else own or Labels()
+    names: Labels | None = getattr(said, "names", None)
+    return namebook.read(said.labels) if said.labels is not None else names or Labels()

@@ -44,9 +44,8 @@ class Named(Given):
 
 
 def add_words(name: str, parser: Words) -> None:
-    """Tells the parser of a command the words by which a day is named. Where no day is named they are only told."""
-    if name not in TAKES:
-        return
+    """Tells the parser of a command that takes days the words by which one is named. Where no day is named they are
+    only told."""
     parser.in_place = in_place_of_paths
     group = parser.add_argument_group("of a folder of days, in place of paths")
     if parser.names_day:
@@ -130,8 +129,8 @@ def look_up_more(office: Office, date: str, said: argparse.Namespace) -> None:
 
         said.told = told_by(intake.for_a_day(office.store, day).items(intake.CHANGES, intake.EDITS))
     if before and not said.history and not said.before:
-        own = office.store.pair_of(before[-1])
-        said.before = [own.day, own.report]
+        pair = office.store.pair_of(before[-1])
+        said.before = [pair.day, pair.report]
 
 
 def day_named(office: Office, date: str) -> Event:
@@ -139,6 +138,6 @@ def day_named(office: Office, date: str) -> Event:
     days = office.store.events.days
     event = next((event for event in days if str(event.date) == date), None)
     if event is None:
-        known = f"days from {days[0].date} to {days[-1].date}, {len(days)} of them" if days else "no settled day"
-        raise WordsFault(f"--day {date}: {office.path} has {known}, and not this one")
+        which = f"days from {days[0].date} to {days[-1].date}, {len(days)} of them" if days else "no settled day"
+        raise WordsFault(f"--day {date}: {office.path} has {which}, and not this one")
     return event

@@ -52,14 +52,14 @@ def make_pages(office: Office, filed: Event, place: Path) -> None:
     from registry_tools.pages.settled import told_by
 
     store = office.store
-    pair, earlier = store.pair_of(filed), [own for own in store.events.days if own.date < filed.date]
+    pair, earlier = store.pair_of(filed), [event for event in store.events.days if event.date < filed.date]
     before = store.pair_of(earlier[-1]) if earlier else None
     told = told_by(intake.for_a_day(store, filed).items(intake.CHANGES, intake.EDITS))
-    own = Page(
+    pages = Page(
         pair.day, pair.report, before=(before.day, before.report) if before else None,
         pending=store.kept(filed, "waiting"), told=told,
     )  # fmt: skip
-    page.make(place, own)
+    page.make(place, pages)
 
 
 def make_again(office: Office, dates: list[datetime.date]) -> None:

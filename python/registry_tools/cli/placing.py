@@ -27,10 +27,10 @@ def run(name: str, words: list[str], giver: Giver) -> int:
     if name in NOT_THERE or name not in {**main.OFFICE_COMMANDS, **named_day.TAKES}:
         raise WordsFault("that is no command of a desk")
     module = main.module_of(name)
-    said = main.parser_of(name, module, name in named_day.TAKES).parse_args(words)
-    fit(said, giver)
-    with named_day.looked_up(name, said):
-        return module.run(said)
+    parsed = main.parser_of(name, module, name in named_day.TAKES).parse_args(words)
+    fit(parsed, giver)
+    with named_day.looked_up(name, parsed):
+        return module.run(parsed)
 
 
 def fit(said: argparse.Namespace, giver: Giver) -> None:
@@ -51,7 +51,7 @@ def fit(said: argparse.Namespace, giver: Giver) -> None:
         if isinstance(values, FileWord):
             setattr(said, option, placed(values, giver))
         elif isinstance(values, list):
-            setattr(said, option, [placed(own, giver) if isinstance(own, FileWord) else own for own in values])
+            setattr(said, option, [placed(value, giver) if isinstance(value, FileWord) else value for value in values])
 
 
 def placed(word: FileWord, giver: Giver) -> Elsewhere:

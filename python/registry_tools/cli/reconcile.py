@@ -46,8 +46,8 @@ def run(said: argparse.Namespace) -> int:
     day, report = read_pair(said.day, said.report)
     unlike = reconciling.unlike_accounts(found, report.book)
     rows: list[list[Cell]] = [
-        [own.what, own.account, own.field, own.file, own.day]
-        for own in unlike if not (said.listed and own.what == reconciling.ONLY_DAY)
+        [each.what, each.account, each.field, each.file, each.day]
+        for each in unlike if not (said.listed and each.what == reconciling.ONLY_DAY)
     ]  # fmt: skip
     alike = f"alike after {day.head.date}: accounts {len(found.accounts)}, of each {', '.join(found.columns)}\n"
     as_table = showing.as_table(COLUMNS.names, rows, COLUMNS.numbers)

@@ -64,11 +64,11 @@ def run(said: argparse.Namespace) -> int:
     return status
 
 
-def send_of(said: argparse.Namespace, own: days.Days) -> Send:
+def send_of(said: argparse.Namespace, settled: days.Days) -> Send:
     """Which packages the words ask for."""
     words_of = (voice.option("from"), said.begin), (voice.option("day"), said.day)
     begin, end = (asked.date_or(name, word, None) for name, word in words_of)
-    first, last = send.span_of(own.dates, begin, end)
+    first, last = send.span_of(settled.dates, begin, end)
     if said.mails is not None and not said.eml:
         raise WordsFault("--mails is for --eml")
     holders = tuple(said.holder) if said.holder else None
@@ -77,11 +77,11 @@ def send_of(said: argparse.Namespace, own: days.Days) -> Send:
 
 def of_pairs(said: argparse.Namespace) -> Sent:
     """Makes the packages of pairs of paths."""
-    own = days.of_pairs(days.pairs_named(said.pairs))
-    wanted = send_of(said, own)
+    settled = days.of_pairs(days.pairs_named(said.pairs))
+    wanted = send_of(said, settled)
     if said.release:
         raise WordsFault("--release is for a folder: paths are not released")
-    return send.send(own, named.labels_of(said), wanted, said.folder, lambda: None)
+    return send.send(settled, named.labels_of(said), wanted, said.folder, lambda: None)
 
 
 def of_folder(said: argparse.Namespace) -> tuple[Sent, int]:
@@ -90,8 +90,8 @@ def of_folder(said: argparse.Namespace) -> tuple[Sent, int]:
     if said.pending:
         raise WordsFault("--pending is for --pairs: a folder knows what waits")
     with folder.opened(said.office) as office, days.telling_of_tables(office.store.path):
-        own = days.of_store(office.store)
-        wanted = send_of(said, own)
+        settled = days.of_store(office.store)
+        wanted = send_of(said, settled)
         day = office.events.day_of(wanted.end)
         assert day is not None  # (it is one of the dates)
         settings, waiting = office.settings, office.store.kept(day, "waiting")
@@ -104,7 +104,7 @@ def of_folder(said: argparse.Namespace) -> tuple[Sent, int]:
             way = voice.either("--release releases it with them", "its box on the page Send releases it")
             words.to_errors(f"{LOOK}: {day.date} is not released: it may be undone behind its letters; {way}")
         # (all letters are there, and get their names behind it: no day is taken back behind its letters)
-        made = send.send(own, names, wanted, said.folder, functools.partial(keep, said, office, by, day))
+        made = send.send(settled, names, wanted, said.folder, functools.partial(keep, said, office, by, day))
         return made, 0 if is_released or said.release else FOUND
 
 
@@ -134,6 +134,6 @@ def must_be_proved(day: Event) -> None:
 def must_still_be_there(office: Office, day: Event) -> None:
     """Ends the command if somebody took the day of the letters back while they were made."""
     with office.store.reading():
-        there = office.store.events.day_of(day.date)
-    if there is None or there.line != day.line:
+        event = office.store.events.day_of(day.date)
+    if event is None or event.line != day.line:
         raise WordsFault(f"{day.date} was undone meanwhile", "look once more")

@@ -34,7 +34,7 @@ def run(said: argparse.Namespace) -> int:
     date = None if said.date is None else dates.date_of(voice.option("date"), said.date)
     with folder.opened(said.office) as office:
         tried = trial.try_next(office, date)
-    done = [own for own in tried.looked if own.outcome == "done"]
+    done = [instruction for instruction in tried.looked if instruction.outcome == "done"]
     if done:
         print("\n".join(table_of(done)))
     status = tell(tried.looked, tried.next_day)
@@ -61,7 +61,7 @@ def tell(looked: list[Looked], next_day: NextDay, places: set[int] | None = None
     if any(tried.outcome != "done" for tried in shown):
         print("\n".join(table_of([tried for tried in shown if tried.outcome != "done"])))
     print("".join(f"{tried.place or trial.WAITED}: {tried.why}\n" for tried in refused), end="")
-    print("".join(f"{name}: {said}\n" for name, said in trial.whys(shown).items()), end="")
+    print("".join(f"{name}: {meaning}\n" for name, meaning in trial.whys(shown).items()), end="")
     if shown or places is None:
         print(f"{'' if places is None else 'of these, '}as it stands, on {next_day.date}: {trial.counts_of(shown)}")
     return FOUND if refused else 0

@@ -29,8 +29,8 @@ def add_words(parser: argparse.ArgumentParser) -> None:
 def run(said: argparse.Namespace) -> int:
     """Runs the command, and answers the exit status."""
     settler = None if said.program is None else lambda: settler_of(said.program, "--program")
-    own = verify(said.day, said.report, settler)
-    counts, difference = (own.instructions, own.accounts), own.difference
+    verified = verify(said.day, said.report, settler)
+    counts, difference = (verified.instructions, verified.accounts), verified.difference
     row: list[showing.Cell] = [str(said.day), str(said.report), *counts, "no" if difference else "yes"]
     so = f"{said.report} is what the rules make of {said.day}: instructions {counts[0]}, accounts {counts[1]}"
     answers.show_or_tell(said, COLUMNS, [[*row, *showing.fault_row(difference)]], lambda: f"{difference or so}\n")

@@ -4,16 +4,20 @@ import contextlib
 import getpass
 import os
 import sys
+from collections.abc import Sequence
 from dataclasses import replace
 
 from registry_tools import outcomes, voice
-from registry_tools.errors import FOUND
+from registry_tools.errors import FOUND, WordsFault, shown
 from registry_tools.notes import LOOK
 from registry_tools.office.approvals import AskedFor
 from registry_tools.office.folder import WHERE
 from registry_tools.office.office import By, Office, by_of
 from registry_tools.office.people import People, one_line as one_line
 from registry_tools.store import events
+
+# An event has no number of so many digits.
+MOST_DIGITS = 10
 
 
 def user_name() -> str:
@@ -54,11 +58,20 @@ def add_day(parser: argparse.ArgumentParser, what: str) -> None:
 def by(said: argparse.Namespace, office: Office | None) -> By:
     """By whom the command is given, of the people that a folder knows, if it is there already: by the login of the
     process, or the one for which it may speak. Tells if the clock went back since the last event."""
-    if office is not None and office.events.all and (now := events.now()) < (last := office.events.all[-1].at):
+    done = office.events if office is not None else None
+    if done and done.rows and (now := events.now()) < (last := done.of_id(len(done.rows)).at):
         clock = f"the clock of this machine says {voice.time(now)}, and the last event is of {voice.time(last)}"
         to_errors(f"{LOOK}: {clock}: set it right, or what is done now seems to have been done earlier")
-    known = office.people if office is not None else People()
-    return replace(by_of(known, said.who, said.whom, said.seen), shown=said.shown)
+    people = office.people if office is not None else People()
+    return replace(by_of(people, said.who, said.whom, said.seen), shown=said.shown)
+
+
+def number_of_event(words: Sequence[str]) -> int:
+    """The number of an event that the words behind a command name. Raises WordsFault if they name none."""
+    word = " ".join(words)
+    if not (word.isascii() and word.isdigit() and len(word) < MOST_DIGITS):
+        raise WordsFault(f"found {shown(word)}; expected the number of an event", voice.command("settings"), ", as of ")
+    return int(word)
 
 
 def tell_asked_for(asked: AskedFor) -> int:

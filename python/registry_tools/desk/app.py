@@ -68,6 +68,7 @@ POST: dict[str, Callable[..., Any]] = {
     "/next/seen": functools.partial(posts.begin, command="try"),
     "/change/look": asks.ask, "/change/make": posts.make_change, "/close/settle": posts.settle,
     "/correct/look": posts.look_at_correction, "/correct/make": posts.make_correction,
+    "/office/ask": settings_page.ask, "/office/take-back": settings_page.take_back,
     "/office/db": functools.partial(settings_page.begin, command="db"),
     "/office/backup": functools.partial(settings_page.begin, command="backup"),
     "/undo/yes": posts.undo, "/release/yes": posts.release, "/names/look": asks.ask,
@@ -160,9 +161,9 @@ def failed(served: Served, error: Exception) -> Any:
 def told_of(error: Exception) -> tuple[int, str, str]:
     """What is told of an error: its status, its words, and the form to which the page leads back."""
     if isinstance(error, HTTPException):
-        own = error.description if isinstance(error, NotFound) and error.description != NotFound.description else ""
+        text = error.description if isinstance(error, NotFound) and error.description != NotFound.description else ""
         code = error.code or 500
-        return code, str(own or OTHER.get(code, f"{error.name}.")), ""
+        return code, str(text or OTHER.get(code, f"{error.name}.")), ""
     if isinstance(error, OSError):
         name = Path(str(error.filename or "the folder")).name
         return 500, f"{name}: it cannot be read or written: {error.strerror or 'for a reason not known'}", ""

@@ -36,14 +36,14 @@ OF_ASKING = OF_PAGE | {"who", "why", "look"}
 
 def ask(served: Served) -> Any:
     """Keeps what a form asks for, and goes to its look. Raises WordsFault if it asks for nothing."""
-    page, said = page_of_form(), flask.request.form.to_dict(flat=False)
-    said = {name: words for name, words in said.items() if name not in OF_ASKING}
+    page, fields = page_of_form(), flask.request.form.to_dict(flat=False)
+    fields = {name: words for name, words in fields.items() if name not in OF_ASKING}
     earlier = served.jobs.asked_for(page, form("look"))
     if form("look") and earlier is None:
         raise WordsFault(FORGOTTEN)
     # (what was chosen once is not chosen again)
-    place, own = (earlier.place, {**earlier.said, **said}) if earlier else (uploaded(served, page, said), said)
-    asked = Asked(page, own, place, why=form("why"))
+    place = earlier.place if earlier else uploaded(served, page, fields)
+    asked = Asked(page, {**(earlier.fields if earlier else {}), **fields}, place, why=form("why"))
     # (a desk that was started anew knows what was typed by the address alone)
     typed = {} if is_of_files(asked) else typed_in(asked)
     return flask.redirect(address_of(f"{page}/look/{served.jobs.ask(asked)}", {**typed}), 303)
@@ -54,12 +54,12 @@ def page_of_form() -> str:
     return "/" + flask.request.path.split("/")[1]
 
 
-def uploaded(served: Served, page: str, said: dict[str, list[str]]) -> str:
+def uploaded(served: Served, page: str, fields: dict[str, list[str]]) -> str:
     """The name of a new upload with the files of the form, or with the instruction that it says; nothing, if a change
     or a name needs none. Raises WordsFault if an instruction needs one."""
-    chosen, year = [own for own in flask.request.files.getlist("files") if own.filename], form("weekdays_of")
-    is_typed = page == "/hand-in" and any(said.get("act", ()))
-    typed = forms.numbers_in(Asked(page, said, "").first(), served.reading.names()) if is_typed else {}
+    chosen, year = [file for file in flask.request.files.getlist("files") if file.filename], form("weekdays_of")
+    is_typed = page == "/hand-in" and any(fields.get("act", ()))
+    typed = forms.numbers_in(Asked(page, fields, "").first(), served.reading.names()) if is_typed else {}
     rows = forms.rows_of_instruction(typed) if is_typed else b""
     if page == "/hand-in" and year:
         calendar = flask.request.files.get("calendar")
@@ -73,8 +73,8 @@ def uploaded(served: Served, page: str, said: dict[str, list[str]]) -> str:
         served.jobs.place_for(place, looks.TYPED).write_bytes(rows)
     if year:
         served.jobs.place_for(place, f"working days of {year}.csv").write_bytes(rows)
-    for own in [] if is_typed or year else chosen:
-        own.save(served.jobs.place_for(place, own.filename or ""))
+    for file in [] if is_typed or year else chosen:
+        file.save(served.jobs.place_for(place, file.filename or ""))
     mapping = flask.request.files.get("mapping")
     if mapping and mapping.filename:
         mapping.save(place / MAPPING)
@@ -91,18 +91,18 @@ def looked_for(served: Served, key: str) -> Asked:
 
 def is_of_files(asked: Asked) -> bool:
     """Whether it is of files that were chosen, and not of what was typed."""
-    return bool(asked.place) and "act" not in asked.said
+    return bool(asked.place) and "act" not in asked.fields
 
 
 def typed_in(asked: Asked) -> dict[str, list[str]]:
     """What was typed, as far as it stands in an address."""
-    return {name: [word[:LONGEST_FIELD] for word in words] for name, words in asked.said.items()
+    return {name: [word[:LONGEST_FIELD] for word in words] for name, words in asked.fields.items()
             if any(words) and name != "again"}  # fmt: skip
 
 
 def back_to(asked: Asked) -> str:
     """The address of the form, with what was typed."""
-    return f"{address_of(asked.page, {**typed_in(asked)})}{'#one' if 'act' in asked.said else ''}"
+    return f"{address_of(asked.page, {**typed_in(asked)})}{'#one' if 'act' in asked.fields else ''}"
 
 
 def done_by(served: Served, asked: Asked) -> Any:
@@ -142,20 +142,20 @@ def page_of_files(served: Served, key: str, asked: Asked) -> Any:
     again = meant_again(asked, len(files))
     with served.jobs.looking:
         forms_of = Forms(mapping_of(served, asked), dates or None)
-        own = reading.once(("look", key, by.login), reading.all_states(),
+        look = reading.once(("look", key, by.login), reading.all_states(),
                            lambda: looks.look_at_incoming(reading, by, files, again, forms_of))  # fmt: skip
-    if own.faults and not own.meant:
+    if look.faults and not look.meant:
         served.jobs.spent.add(asked.place)
-    again += [own.meant] if own.meant else []
+    again += [look.meant] if look.meant else []
     return show_page(
-        "look", "A look before it is handed in", own=own, whys=whys(own.looked), no=back_of_files(key, asked), key=key,
-        is_typed=looks.is_typed(files), again=[("again", f"{file}:{line}") for file, line in again], dates=forms.DATES,
-        choose=address_of("/hand-in", {"dates": dates or None}), now_dates=dates,
-        shown=sum_of_outcome(own.added.outcome()) if own.added else "",
-        counts=[(i.name, f"{intake.NAMES[i.kind]} {i.count}") for i in own.added.parts] if own.added else [],
-        rows=[(own.place, own.words, *proposal(served, own), own.said(), own) for own in refused_first(own.looked)],
-        outcomes=trial.counts_of(own.looked),
-        shown_row=lambda row: (*row[:4], outcome(row[5])), names=[own.name for own in files],
+        "look", "A look before it is handed in", own=look, whys=whys(look.looked), no=back_of_files(key, asked),
+        key=key, is_typed=looks.is_typed(files), again=[("again", f"{file}:{line}") for file, line in again],
+        dates=forms.DATES, choose=address_of("/hand-in", {"dates": dates or None}), now_dates=dates,
+        shown=sum_of_outcome(look.added.outcome()) if look.added else "",
+        counts=[(i.name, f"{intake.NAMES[i.kind]} {i.count}") for i in look.added.parts] if look.added else [],
+        rows=[(i.place, i.words, *proposal(served, i), i.said(), i) for i in refused_first(look.looked)],
+        outcomes=trial.counts_of(look.looked),
+        shown_row=lambda row: (*row[:4], outcome(row[5])), names=[given.name for given in files],
     )  # fmt: skip
 
 
@@ -183,10 +183,10 @@ def proposal(served: Served, tried: Looked) -> tuple[str, str]:
 
 def meant_again(asked: Asked, count: int) -> list[tuple[int, int]]:
     """The rows that are meant once more: the place of the file among so many, and its line."""
-    said = asked.said.get("again", [])
-    words = [AGAIN.fullmatch(word) for word in said]
+    words_said = asked.fields.get("again", [])
+    words = [AGAIN.fullmatch(word) for word in words_said]
     pairs = [(int(word[1]), int(word[2])) for word in words if word and int(word[1]) < count]
-    if len(pairs) != len(said):
+    if len(pairs) != len(words_said):
         raise WordsFault(NOT_WHOLE)
     return pairs
 
@@ -195,12 +195,12 @@ def chosen(served: Served, key: str) -> list[str]:
     """The names of the files of a look that are still here."""
     asked = served.jobs.asked_for("/hand-in", key)
     files: list[Given] = served.jobs.uploads.get(asked.place, []) if asked else []
-    return [own.name for own in files if not looks.is_typed(files)]
+    return [given.name for given in files if not looks.is_typed(files)]
 
 
 def names_told(files: list[Given]) -> list[str]:
     """The words that say how files are called, which lie under names of the desk."""
-    return [f"--named={own.name}" for own in files]
+    return [f"--named={given.name}" for given in files]
 
 
 # Changes by hand, and names.
@@ -209,11 +209,12 @@ def names_told(files: list[Given]) -> list[str]:
 def page_of_change(served: Served, key: str, asked: Asked) -> Any:
     """What a change by hand would change."""
     edits = looks.edits_asked([*forms.words_of_change(asked.first(), served.reading)])
-    own = looks.look_at_change(served.reading, gate.by(served), edits)
+    changed = looks.look_at_change(served.reading, gate.by(served), edits)
     return show_page(
-        "yes", "A look before it is changed", fields=[("look", key)], notes=own.notes, shown=sum_of_outcome(own.rows),
-        lead=f"Nothing is changed yet. For {own.date} this would be:", action="/change/make", typed_why=asked.why,
-        told=[sorted_table("Before and after", BESIDE, side_by_side(own.rows))], no=back_to(asked),
+        "yes", "A look before it is changed", fields=[("look", key)], notes=changed.notes,
+        shown=sum_of_outcome(changed.rows),
+        lead=f"Nothing is changed yet. For {changed.date} this would be:", action="/change/make", typed_why=asked.why,
+        told=[sorted_table("Before and after", BESIDE, side_by_side(changed.rows))], no=back_to(asked),
         button="Yes, change it",
     )  # fmt: skip
 
@@ -222,7 +223,7 @@ def page_of_names(served: Served, key: str, asked: Asked) -> Any:
     """What would be named how, by the form or by a file."""
     with served.jobs.looking:
         new, before, doubts = looks.look_at_names(served.reading, words_of_names(served, asked))
-    rows = [(f"{own.kind} {own.number}", before.name_of(*own[:2]), own.name) for own in new]
+    rows = [(f"{label.kind} {label.number}", before.name_of(*label[:2]), label.name) for label in new]
     return show_page(
         "yes", "A look before it is named", lead="Nothing is named yet. This would be:", notes=doubts,
         told=[sorted_table("Before and after", BESIDE, rows)], action="/names/give", button="Yes, name it so",
@@ -236,6 +237,6 @@ def words_of_names(served: Served, asked: Asked) -> list[str]:
     if asked.place:
         first = served.jobs.upload(asked.place)[:1]
         return [f"--file={first[0].path}", *names_told(first)]
-    said = asked.first()
-    named = [*(said.get(name, "") for name in ("kind", "number")), *filter(None, [said.get("name", "")])]
+    fields = asked.first()
+    named = [*(fields.get(name, "") for name in ("kind", "number")), *filter(None, [fields.get("name", "")])]
     return [*(["--remove"] if len(named) == 2 else []), "--", *named]

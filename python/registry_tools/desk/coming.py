@@ -23,35 +23,36 @@ CALENDAR = "text/calendar; charset=utf-8"
 
 def page(served: Served) -> Any:
     """The page of what is due, and of what is overdue, once a day is settled."""
-    own = served.reading
-    if own.office().last() is None:
+    reading = served.reading
+    if reading.office().last() is None:
         return gate.said(400, gate.NO_DAY)
-    (found, until), dates = found_until(own), own.office().settings.due
+    (found, until), dates = found_until(reading), reading.office().settings.due
     rows = [(str(it.date), it.what, it.account, it.record, it.text) for it in due.folded(found)]
     return show_page(
-        "due", "Due", rows=rows, columns=COLUMNS, until=until, shown_row=functools.partial(cells_of, own),
+        "due", "Due", rows=rows, columns=COLUMNS, until=until, shown_row=functools.partial(cells_of, reading),
         overdue=sum(it.what == due.OVERDUE for it in found), has_dates=any((dates.surrender, dates.emissions)),
         query=flask.request.query_string.decode("ascii", "replace"),
     )  # fmt: skip
 
 
-def found_until(own: Reading) -> tuple[list[due.Due], datetime.date]:
+def found_until(reading: Reading) -> tuple[list[due.Due], datetime.date]:
     """What is due up to the day of the address, or as many days ahead as the office says; and that day."""
-    office, word = own.office(), asked("until")
+    office, word = reading.office(), asked("until")
     until = date_of("Up to the day", word) if word else due.last_shown(office)
-    settled = own.settled()
+    settled = reading.settled()
     assert settled is not None  # (who asks has looked)
+    pair = settled.day, settled.report
     # (what nothing changes that is handed in is kept)
-    known = own.once(("due", voice.is_desk()), own.state_of_days(),
-                     functools.partial(due.of_days, office, settled.day, settled.report, own.standings_of_last))
-    state = f"{own.all_states()} {datetime.date.today()}"
-    return own.once(("due", until, voice.is_desk()), state, lambda: due.with_calendar(office, until, known)), until
+    tasks = reading.once(("due", voice.is_desk()), reading.state_of_days(),
+                     lambda: due.of_days(office, *pair, lambda *of: reading.standings(of[-1])))
+    state = f"{reading.all_states()} {datetime.date.today()}"
+    return reading.once(("due", until, voice.is_desk()), state, lambda: due.with_calendar(office, until, tasks)), until
 
 
-def cells_of(own: Reading, row: Sequence[Any]) -> Sequence[Any]:
+def cells_of(reading: Reading, row: Sequence[Any]) -> Sequence[Any]:
     """The cells of what is due, its account with a link and its name."""
     date, what, account, *more = row
-    named = link(f"/accounts/{account}", own.names().account(account)) if account else ""
+    named = link(f"/accounts/{account}", reading.names().account(account)) if account else ""
     return date, tag("strong", what) if what == due.OVERDUE else what, named, *more
 
 
@@ -64,4 +65,4 @@ def as_file(served: Served, kind: str) -> Response:
         found, until = found_until(served.reading)
     if kind == "ics":
         return download(due.as_calendar(found, until).encode(), CALENDAR, "due.ics")
-    return rows_file(served, kind, "due", tables.COLUMNS["due"], [own.cells() for own in found])
+    return rows_file(served, kind, "due", tables.COLUMNS["due"], [task.cells() for task in found])

@@ -103,10 +103,10 @@ def at_socket(said: argparse.Namespace, path: Path) -> int:
         return by_system(missing, AT_SOCKETS, f"{PACKAGES} python3-gunicorn")
     from registry_tools.door import door
 
-    own, known = people.system_login(), door.Door(path).people()
-    if not known.may_speak(own):
-        way = f"below [people], {own} = The desk: {people.PROXY}"
-        raise WordsFault(f"--socket: {own} speaks for who comes, and office.ini does not say so", way)
+    login, people_here = people.system_login(), door.Door(path).people()
+    if not people_here.may_speak(login):
+        way = f"below [people], {login} = The desk: {people.PROXY}"
+        raise WordsFault(f"--socket: {login} speaks for who comes, and office.ini does not say so", way)
     door.must_be_free(said.socket)
     serve_at(path, said.socket, said.proxy_user or door.HEADER, said.look)
     return 0
@@ -123,12 +123,12 @@ def serve_at(path: Path, socket: str, header: str, is_look: bool) -> None:
 
     gc.enable()
     progress.is_shown = False
-    with private_folder() as own:
+    with private_folder() as aside:
         # (cookies know no sockets: another desk has another one)
         named = f"socket:{hashlib.sha256(os.fsencode(os.path.abspath(socket))).hexdigest()[:8]}"
         at_door = door.Door(path, header, Kept(socket))
-        served = Served(path, named, own, None, None, is_look, at_door)
-        coming = Coming(path, own, at_door, is_look)
+        served = Served(path, named, aside, None, None, is_look, at_door)
+        coming = Coming(path, aside, at_door, is_look)
 
         def end() -> None:
             coming.end()
@@ -152,8 +152,8 @@ def serve(path: Path, port: int, who: str | None, proxy: Proxy | None, is_look: 
     # (a server lives for days, and a command would leave its circles to its end)
     gc.enable()
     progress.is_shown = False
-    with private_folder() as own:
-        served = Served(path, f"{ADDRESS}:{port}", own, who, proxy, is_look)
+    with private_folder() as aside:
+        served = Served(path, f"{ADDRESS}:{port}", aside, who, proxy, is_look)
         flask = app.make(served)
         try:
             server = waitress.create_server(
@@ -163,7 +163,7 @@ def serve(path: Path, port: int, who: str | None, proxy: Proxy | None, is_look: 
                 clear_untrusted_proxy_headers=False,
             )  # fmt: skip
         except OSError as error:
-            raise WordsFault(f"--port {port}: {error.strerror}; another number may be free") from None
+            raise WordsFault(f"--port {port}: {error.strerror}", "another number may be free", "; ") from None
         early.watch(server, flask, served.host, proxy, app.MOST_BYTES, heads.MOST_FORM)
         log.begin()
         link = f"http://{served.host}/?key={served.key}"

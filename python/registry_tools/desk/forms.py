@@ -55,17 +55,17 @@ class Field:
     more: str = NUMERIC
 
 
-def accounts_offered(own: Reading) -> list[tuple[int, str]]:
+def accounts_offered(reading: Reading) -> list[tuple[int, str]]:
     """The numbers of accounts with what somebody knows them by, and what they hold."""
-    settled, names = own.settled(), own.names()
+    settled, names = reading.settled(), reading.names()
     blocks = itertools.islice(settled.report.book.values() if settled else [], MOST_OFFERED)
     rows = (block.rows[0].split(",") for block in blocks)
     return [(int(row[1]), account_offered(row, names)) for row in rows]
 
 
-def cut_told(own: Reading) -> str:
+def cut_told(reading: Reading) -> str:
     """That not all accounts are offered, and how the others are found; nothing, if all are."""
-    settled = own.settled()
+    settled = reading.settled()
     count = len(settled.report.book) if settled else 0
     return f"The first {MOST_OFFERED:,} of {count:,} accounts are offered here." if count > MOST_OFFERED else ""
 
@@ -86,35 +86,35 @@ OF_NEW = [
 ]  # fmt: skip
 
 
-def account_meant(own: Reading, word: str) -> int | None:
+def account_meant(reading: Reading, word: str) -> int | None:
     """The account that a word names by its number or its name; None, if it names none that is there."""
     with contextlib.suppress(WordsFault):
-        number = int(word) if word.isascii() and word.isdigit() else int(own.names().one(word, ACCOUNT).number)
-        return number if number in own.text_of_next().book else None
+        number = int(word) if word.isascii() and word.isdigit() else int(reading.names().one(word, ACCOUNT).number)
+        return number if number in reading.text_of_next().book else None
     return None
 
 
-def users_entitled(own: Reading, act: str, number: int | None) -> dict[str, list[tuple[int, str]]]:
+def users_entitled(reading: Reading, act: str, number: int | None) -> dict[str, list[tuple[int, str]]]:
     """Who may propose and approve an act for an account, with their names; nobody, if none is named."""
     if number is None:
         return {right: [] for right in ("propose", "approve")}
-    day, names = own.text_of_next(), own.names()
+    day, names = reading.text_of_next(), reading.names()
     account = day.book[number].account()
-    there = {right: passing.entitled(day.head, account, act, right) for right in ("propose", "approve")}
-    return {right: [(user, names.user(user)) for user in users] for right, users in there.items()}
+    users_of = {right: passing.entitled(day.head, account, act, right) for right in ("propose", "approve")}
+    return {right: [(user, names.user(user)) for user in users] for right, users in users_of.items()}
 
 
-def told_of_account(own: Reading, number: int) -> str:
+def told_of_account(reading: Reading, number: int) -> str:
     """What somebody knows an account by, and what it holds before the next day."""
-    row = own.text_of_next().book[number].rows[0].split(",")
-    return f"{number}: {account_offered(row, own.names())}"
+    row = reading.text_of_next().book[number].rows[0].split(",")
+    return f"{number}: {account_offered(row, reading.names())}"
 
 
-def numbers_in(said: Said, names: Labels) -> dict[str, str]:
+def numbers_in(fields: Said, names: Labels) -> dict[str, str]:
     """What a form says, with the numbers of accounts and users in place of their names. Raises WordsFault if something
     has no such name, or several have."""
     kinds = {**dict.fromkeys(OF_ACCOUNTS, ACCOUNT), "proposer": USER, "approver": USER}
-    found = {name: word.strip() for name, word in said.items()}
+    found = {name: word.strip() for name, word in fields.items()}
     for name, kind in kinds.items():
         word = found.get(name, "")
         if word and not word.isdigit() and names.named:
@@ -125,13 +125,13 @@ def numbers_in(said: Said, names: Labels) -> dict[str, str]:
     return found
 
 
-def instruction_fields(own: Reading, act: str, of: int | None = None) -> list[Field]:
+def instruction_fields(reading: Reading, act: str, of: int | None = None) -> list[Field]:
     """What the form of an instruction asks for, with the account that it is of, if one is named."""
     now: object = OTHER
     proposed = [now]
     # (where the next day cannot be made, its own page says why)
     with contextlib.suppress(WordsFault):
-        day = own.text_of_next().head
+        day = reading.text_of_next().head
         before, behind = ([*filter(is_so, day.working_days)] for is_so in (day.date.__gt__, day.date.__lt__))
         now, proposed = day.date, [*before[-BEFORE:], day.date, *behind[:BEHIND], OTHER]
     columns = sheets.columns_of_act(act)
@@ -145,16 +145,16 @@ def instruction_fields(own: Reading, act: str, of: int | None = None) -> list[Fi
     ]  # fmt: skip
 
 
-def rows_of_instruction(said: Said) -> bytes:
+def rows_of_instruction(fields: Said) -> bytes:
     """The rows of the table that the form of an instruction says; one with something wrong as it is, so that it is
     told. Raises WordsFault if it says no act."""
-    act = said.get("act", "")
+    act = fields.get("act", "")
     if act not in faults.ACT_WORDS:
         raise WordsFault("no act was chosen")
     columns = [*sheets.PROPOSAL, *sheets.columns_of_act(act)]
-    cells = {name: said.get(name, "").strip() for name in columns}
+    cells = {name: fields.get(name, "").strip() for name in columns}
     # (a day that was typed counts, whatever stands in the list above it)
-    other_day = said.get("other_day", "").strip()
+    other_day = fields.get("other_day", "").strip()
     if other_day or cells["proposed"] == OTHER:
         cells["proposed"] = other_day
     filled = [name for name in columns if cells[name] or name in sheets.PROPOSAL]
@@ -176,23 +176,23 @@ def rows_of_year(year: str, but: str, calendar: bytes) -> bytes:
 
 def account_fields(block: Block, periods: int) -> Iterator[Field]:
     """What may be changed of an account, with a correction for each of so many periods."""
-    row, lists = block.rows[0].split(","), [own.split(",") for own in block.list_rows]
+    row, lists = block.rows[0].split(","), [list_row.split(",") for list_row in block.list_rows]
     yield Field("holder", "Holder", row[3], word="--holder={}")
     yield Field("outside", "Transfers outside the trusted list", row[5], YES_NO, "--outside={}")
     yield Field("waiver", "Waiver of approval", row[6], YES_NO, "--waiver={}")
-    for user, right in (own[1:3] for own in lists if own[0] == "user"):
+    for user, right in (cells[1:3] for cells in lists if cells[0] == "user"):
         options = [KEEP, *(other for other in RIGHTS if other != right), DROP]
         words = f"--user=+{user}:{{}}", f"--user=-{user}"
         yield Field(f"user-{user}", f"User {user} may {called(right)}", KEEP, options, *words)
     yield Field("new_user", NEW_USER)
     yield RIGHT_OF_NEW
-    corrections = {"1": row[7], **{own[1]: own[2] for own in lists if own[0] == "correction"}}
+    corrections = {"1": row[7], **{cells[1]: cells[2] for cells in lists if cells[0] == "correction"}}
     for period in map(str, range(1, periods + 1)):
-        said, word = f"Correction factor of period {period}", f"--correction={period}:{{}}"
-        yield Field(f"correction-{period}", said, corrections.get(period, "0"), word=word)
-    for tag, year, value in (own[:3] for own in lists if own[0] in OTHER_ROWS):
-        said = f"{tag.capitalize()} of {year}: {grouped(value)}"
-        yield Field(f"{tag}-{year}", said, KEEP, [KEEP, DROP], drop=f"--leave-out={tag}:{year}")
+        label, word = f"Correction factor of period {period}", f"--correction={period}:{{}}"
+        yield Field(f"correction-{period}", label, corrections.get(period, "0"), word=word)
+    for tag, year, value in (cells[:3] for cells in lists if cells[0] in OTHER_ROWS):
+        label = f"{tag.capitalize()} of {year}: {grouped(value)}"
+        yield Field(f"{tag}-{year}", label, KEEP, [KEEP, DROP], drop=f"--leave-out={tag}:{year}")
 
 
 def rule_fields(day: DayText) -> Iterator[Field]:
@@ -207,17 +207,17 @@ def rule_fields(day: DayText) -> Iterator[Field]:
     yield from (Field(f"lag-{lag}", LAGS[lag], days, word=f"--lag={lag}:{{}}") for lag, days in head.lags.items())
     for of, kind in itertools.product(faults.ACCOUNT_KINDS, rules.KINDS):
         is_there = ["surrender", of, kind] in rows
-        said, word = f"Accounts of the kind {of} may surrender {kind} allowances", f"{'-+'[not is_there]}{of}:{kind}"
-        yield Field(f"pair-{of}-{kind}", said, YES_NO[not is_there], YES_NO, f"--surrender={word}")
+        label, word = f"Accounts of the kind {of} may surrender {kind} allowances", f"{'-+'[not is_there]}{of}:{kind}"
+        yield Field(f"pair-{of}-{kind}", label, YES_NO[not is_there], YES_NO, f"--surrender={word}")
     yield Field("working", "A day that becomes a working day, as 2025-12-29", word="--working={}", more="")
     later = [*filter(head.date.__lt__, head.working_days)][:MOST_WORKING]
     yield Field("not_working", "A day that is no working day any more", "", ["", *later], "--not-working={}")
 
 
-def words_of_change(said: Said, own: Reading) -> Iterator[tuple[str, str]]:
+def words_of_change(answers: Said, reading: Reading) -> Iterator[tuple[str, str]]:
     """The words of ./day change for what a form says otherwise than it is, each with the label of its field. WordsFault
     if there is no such account."""
-    day, of, number = own.text_of_next(), said.get("of", ""), said.get("account", "")
+    day, of, number = reading.text_of_next(), answers.get("of", ""), answers.get("account", "")
     fields: Iterable[Field] = rule_fields(day) if of == "rules" else ()
     if of == "account":
         if not number.isascii() or not number.isdigit() or int(number[:10]) not in day.book:
@@ -225,19 +225,20 @@ def words_of_change(said: Said, own: Reading) -> Iterator[tuple[str, str]]:
         yield "", number
         fields = account_fields(day.book[int(number)], len(day.head.periods))
     for field in fields:
-        asked = said.get(field.name, str(field.now))
+        asked = answers.get(field.name, str(field.now))
         if field.options and asked not in map(str, field.options):
             expected = f"one of {', '.join(map(str, field.options))}"
             raise WordsFault(f"{field.label}: found {shown(asked)}; expected {expected}")
         word = field.drop if asked == DROP else field.word.format(asked)
         if word and asked != str(field.now):
             yield field.label, word
-    if of == "rules" and (said.get("first") or said.get("last")):
-        yield "The years of one more period", f"--period={said.get('first', '')}-{said.get('last', '')}"
+    if of == "rules" and (answers.get("first") or answers.get("last")):
+        yield "The years of one more period", f"--period={answers.get('first', '')}-{answers.get('last', '')}"
     if of == "new":
-        made = [said.get(own.name, "") for own in OF_NEW[:3]]
+        made = [answers.get(each.name, "") for each in OF_NEW[:3]]
         # (the first that is no number is told)
-        label = next((own.label for own, word in zip(OF_NEW, made) if not own.options and not word.isdigit()), "")
+        label = next((each.label for each, word in zip(OF_NEW, made) if not each.options and not word.isdigit()), "")
         yield label, f"--open-account={','.join(made)}"
-    if of != "rules" and said.get("new_user"):
-        yield OF_NEW[3].label if of == "new" else NEW_USER, f"--user=+{said['new_user']}:{said.get('new_right', '')}"
+    if of != "rules" and answers.get("new_user"):
+        user, right = answers["new_user"], answers.get("new_right", "")
+        yield OF_NEW[3].label if of == "new" else NEW_USER, f"--user=+{user}:{right}"

@@ -89,95 +89,95 @@ def let_in(served: Served) -> Any:
 
 def let_in_or_not(served: Served) -> Any:
     """The same. Raises FileFault if nobody knows who may come."""
-    own, request = head(), flask.request
+    asked_by, request = head(), flask.request
     if served.door is not None:
-        return let_in_by(served.door, own)
-    refusal = heads.refusal_of_address(served.host, own) or heads.refusal_of_proxy(served.proxy, own)
+        return let_in_by(served.door, asked_by)
+    refusal = heads.refusal_of_address(served.host, asked_by) or heads.refusal_of_proxy(served.proxy, asked_by)
     refusal = refusal or refusal_of_name(served)
     key = request.args.get("key")
     if not refusal and key is not None and request.method == "GET" and request.path == "/":
-        return enter(served, own, key)
-    refusal = refusal or heads.refusal_of_browser(served.proxy, own, flask.session) or refusal_of_form()
-    return refuse(own, refusal) if refusal else None
+        return enter(served, asked_by, key)
+    refusal = refusal or heads.refusal_of_browser(served.proxy, asked_by, flask.session) or refusal_of_form()
+    return refuse(asked_by, refusal) if refusal else None
 
 
 def refusal_of_name(served: Served) -> Refusal | None:
     """Why somebody gets nothing whom the proxy names, and office.ini does not."""
-    known = settings.read(served.path / SETTINGS).people.named if served.proxy is not None else {}
+    people_named = settings.read(served.path / SETTINGS).people.named if served.proxy is not None else {}
     name = name_of_proxy(served)
-    flask.g.person = known.get(name)
-    if not known or name in known:
+    flask.g.person = people_named.get(name)
+    if not people_named or name in people_named:
         return None
     return Refusal(403, NOT_NAMED, f"{name}, whom the proxy names, is no login that {SETTINGS} names")
 
 
-def let_in_by(door: Door, own: Head) -> Any:
+def let_in_by(door: Door, asked_by: Head) -> Any:
     """The same at a socket: whoever comes is who the system says, and has a link beside, or a proxy that names them."""
     peer, session = peer_of(flask.request.environ), flask.session
-    caller = door.caller(peer, own)
+    caller = door.caller(peer, asked_by)
     if isinstance(caller, Refusal):
-        return refuse(own, caller)
+        return refuse(asked_by, caller)
     flask.g.caller, flask.g.person = caller, door.people().named.get(people.person_of(caller.login))
     if peer.is_at_links:
-        return let_in_machine(own, caller) if own.path.endswith(".json") else link_for(door, own, caller)
-    refusal = heads.refusal_of_site(own.of("Host"), own)
+        return let_in_machine(asked_by, caller) if asked_by.path.endswith(".json") else link_for(door, asked_by, caller)
+    refusal = heads.refusal_of_site(asked_by.of("Host"), asked_by)
     key = flask.request.args.get("key")
-    if not refusal and key is not None and own.method == "GET" and own.path == "/":
-        return enter_by(door, own, caller, key)
+    if not refusal and key is not None and asked_by.method == "GET" and asked_by.path == "/":
+        return enter_by(door, asked_by, caller, key)
     is_in = session.get("name") == caller.login and "token" in session
-    if caller.is_by_proxy and not is_in and own.method == "GET":
+    if caller.is_by_proxy and not is_in and asked_by.method == "GET":
         # (the proxy has asked who it is)
-        come_in(own, caller, "")
+        come_in(asked_by, caller, "")
     elif not is_in or not (caller.is_by_proxy or door.links.counts(session.get("link"), caller.login)):
         refusal = refusal or Refusal(403, NO_LINK, "it did not come by a link that counts")
     request = flask.request
-    if own.method == "POST":
+    if asked_by.method == "POST":
         # (a body that goes on up to the end of the connection says no length either)
-        length, coding = request.content_length, own.of("Transfer-Encoding")
+        length, coding = request.content_length, asked_by.of("Transfer-Encoding")
         refusal = refusal or heads.refusal_of_body(
-            own, length or 0, length is None or bool(coding), limits.MOST_BYTES, MOST_FORM
+            asked_by, length or 0, length is None or bool(coding), limits.MOST_BYTES, MOST_FORM
         )
     refusal = refusal or refusal_of_form()
-    return refuse(own, refusal) if refusal else None
+    return refuse(asked_by, refusal) if refusal else None
 
 
-def let_in_machine(own: Head, caller: Caller) -> Any:
+def let_in_machine(asked_by: Head, caller: Caller) -> Any:
     """Lets a program in that asks for JSON where links are made: whose it is, the system says. A form of a browser that
     somebody leads there sends no JSON."""
     refusal = None
     if caller.is_by_proxy:
         refusal = Refusal(404, "Programs come by themselves, and not by a proxy.", "a program by a proxy")
-    if own.method == "POST":
-        length, kind = flask.request.content_length, own.of("Content-Type").partition(";")[0]
+    if asked_by.method == "POST":
+        length, kind = flask.request.content_length, asked_by.of("Content-Type").partition(";")[0]
         if kind != "application/json":
             refusal = refusal or Refusal(415, "JSON is wanted here.", "no JSON")
-        is_open = length is None or bool(own.of("Transfer-Encoding"))
-        refusal = refusal or heads.refusal_of_body(own, length or 0, is_open, limits.MOST_BYTES, limits.MOST_BYTES)
-    return refuse(own, refusal) if refusal else None
+        is_open = length is None or bool(asked_by.of("Transfer-Encoding"))
+        refusal = refusal or heads.refusal_of_body(asked_by, length or 0, is_open, limits.MOST_BYTES, limits.MOST_BYTES)
+    return refuse(asked_by, refusal) if refusal else None
 
 
-def come_in(own: Head, caller: Caller, link: str) -> None:
+def come_in(asked_by: Head, caller: Caller, link: str) -> None:
     """Lets the browser of somebody in."""
     flask.session.clear()
     flask.session.update(token=secrets.token_urlsafe(16), name=caller.login, link=link)
-    log.came_in(own.peer, caller.person)
+    log.came_in(asked_by.peer, caller.person)
 
 
-def enter_by(door: Door, own: Head, caller: Caller, key: str) -> Any:
+def enter_by(door: Door, asked_by: Head, caller: Caller, key: str) -> Any:
     """Lets somebody in who has a link of their own."""
     name = link_name(key)
     if not door.links.counts(name, caller.login):
-        return refuse(own, Refusal(403, NO_LINK, "the link of another login, or one that has ended"))
-    come_in(own, caller, name)
+        return refuse(asked_by, Refusal(403, NO_LINK, "the link of another login, or one that has ended"))
+    come_in(asked_by, caller, name)
     return flask.render_template("entered.html")
 
 
-def link_for(door: Door, own: Head, caller: Caller) -> Any:
+def link_for(door: Door, asked_by: Head, caller: Caller) -> Any:
     """Makes a link for whoever asks at the socket of links, or ends all of theirs."""
-    asked = own.method, own.path
+    asked = asked_by.method, asked_by.path
     if caller.is_by_proxy or asked not in (("POST", "/link"), ("POST", "/end")):
-        return refuse(own, Refusal(404, "Links are made here, and nothing else.", "no link was asked for"))
-    if own.path == "/end":
+        return refuse(asked_by, Refusal(404, "Links are made here, and nothing else.", "no link was asked for"))
+    if asked_by.path == "/end":
         log.told(f"{caller.person} ended their links")
         return Response(f"{door.links.end(caller.login)}\n", content_type=PLAIN)
     key, until = door.links.make(caller.login)
@@ -197,24 +197,24 @@ def refusal_of_form() -> Refusal | None:
     return None if is_known else Refusal(405, "That is no method of this desk.", "no method of the desk")
 
 
-def refuse(own: Head, refusal: Refusal) -> Response:
+def refuse(asked_by: Head, refusal: Refusal) -> Response:
     """The page of a request that is refused."""
-    log.refused(own.peer, own.method, own.path, refusal.code, refusal.why)
+    log.refused(asked_by.peer, asked_by.method, asked_by.path, refusal.code, refusal.why)
     # (what was typed is there again)
     back = back_of_form() if refusal.why == OTHER_TOKEN else ""
     return said(refusal.code, refusal.text, is_again=refusal.is_again, back=back)
 
 
-def enter(served: Served, own: Head, key: str) -> Any:
+def enter(served: Served, asked_by: Head, key: str) -> Any:
     """Lets a browser in that has the secret of the link. Behind a proxy it stays the one whom the proxy names now."""
     if not hmac.compare_digest(key.encode("utf-8", "replace"), served.key.encode()):
         other = "The link has another secret: the desk prints a new one each time it is started."
-        return refuse(own, Refusal(403, other, "the secret of another link"))
+        return refuse(asked_by, Refusal(403, other, "the secret of another link"))
     flask.session.clear()
     flask.session["token"] = secrets.token_urlsafe(16)
     if served.proxy is not None:
         flask.session["name"] = name_of_proxy(served)
-    log.came_in(own.peer, known_name(served))
+    log.came_in(asked_by.peer, known_name(served))
     # (a redirect of a link that was opened elsewhere would not take the strict cookie with it: a page does)
     return flask.render_template("entered.html")
 
@@ -248,8 +248,8 @@ def said(code: int, text: str, is_again: bool = False, back: str = "", title: st
     """A page that says one thing. `is_again`: it leads to the page that was asked for; `back` is a form."""
     path = flask.request.full_path.rstrip("?") if is_again and flask.request.method == "GET" else ""
     # (two slashes would lead to another host)
-    own = title or title_of(code, text)
-    return show_page("said", own, code, text=text, path="/" + path.lstrip("/\\") if path else "", back=back)
+    heading = title or title_of(code, text)
+    return show_page("said", heading, code, text=text, path="/" + path.lstrip("/\\") if path else "", back=back)
 
 
 class Sessions(SecureCookieSessionInterface):
@@ -260,9 +260,9 @@ class Sessions(SecureCookieSessionInterface):
 
     def get_cookie_secure(self, app: flask.Flask) -> bool:
         """Whether the cookie is for TLS alone."""
-        own, caller = head(), flask.g.get("caller")
-        is_by_door = caller is not None and caller.is_by_proxy and heads.says_tls(own)
-        return is_by_door or heads.is_by_tls(self.proxy, own)
+        asked_by, caller = head(), flask.g.get("caller")
+        is_by_door = caller is not None and caller.is_by_proxy and heads.says_tls(asked_by)
+        return is_by_door or heads.is_by_tls(self.proxy, asked_by)
 
 
 # Who it is.
@@ -327,11 +327,11 @@ def may_not(served: Served) -> str:
 
 def name(served: Served) -> str:
     """Who asks for a change: whom the desk knows, or who says it now. A browser says it once."""
-    own = known_name(served)
-    if not own:
-        own = one_line("your name", flask.request.form.get("who", "").strip())
-        if len(own) > LONGEST_NAME:
+    name_now = known_name(served)
+    if not name_now:
+        name_now = one_line("your name", flask.request.form.get("who", "").strip())
+        if len(name_now) > LONGEST_NAME:
             raise WordsFault(f"your name has to be at most {LONGEST_NAME} letters")
         # (a byte that is no UTF-8 has no place in a cookie)
-        flask.session["who"] = own = re.sub("[\ud800-\udfff]", "?", own)
-    return own
+        flask.session["who"] = name_now = re.sub("[\ud800-\udfff]", "?", name_now)
+    return name_now

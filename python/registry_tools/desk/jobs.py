@@ -83,8 +83,7 @@ class Job:
         if status == 0 or status == FOUND and self.command in FINDING:
             is_audit = self.command == "audit"
             return "Done." if not is_audit else "Something was found." if status else "Nothing was found."
-        is_asked_for = self.kind() is Kind.ASKED_FOR
-        return "It is asked for, and waits for somebody else." if is_asked_for else NOTHING
+        return "It is asked for, and waits for somebody else." if self.kind() is Kind.ASKED_FOR else NOTHING
 
     def asks_yes(self) -> bool:
         """Whether it only showed what a correction would make."""
@@ -122,14 +121,14 @@ class Asked:
     its files. Of its yes, the number of the form that said it, and the reason."""
 
     page: str
-    said: dict[str, list[str]]
+    fields: dict[str, list[str]]
     place: str
     number: str = ""
     why: str = ""
 
     def first(self) -> dict[str, str]:
         """What each field says; of several, the first one."""
-        return {name: words[0].strip() for name, words in self.said.items()}
+        return {name: words[0].strip() for name, words in self.fields.items()}
 
 
 def begin(line: list[str], folder: Path, out: Path) -> Started:
@@ -165,9 +164,9 @@ class Jobs:
             if number in self.jobs:
                 return self.jobs[number]
             out = Path(tempfile.mkdtemp(prefix="job-", dir=self.private))
-            own = [MADE] if makes else []
+            goes_to = [MADE] if makes else []
             told = [main.FOR_DESK, str(self.office), str(out / OUTCOME)]
-            line = [*COMMAND, names["./day"], *told, command, *own, "--office", str(self.office), *words]
+            line = [*COMMAND, names["./day"], *told, command, *goes_to, "--office", str(self.office), *words]
             job = Job(number, command, words, out, self.begin(line, out, out), seen, back)
             self.jobs[number] = job
             # (the first ones of many are forgotten, with what they wrote)
@@ -195,7 +194,7 @@ class Jobs:
 
     def ask(self, asked: Asked) -> str:
         """Keeps what somebody asks for, and answers by what it is found again. Raises WordsFault if it is too long."""
-        if sum(len(word) for words in asked.said.values() for word in words) > MOST_LETTERS:
+        if sum(len(word) for words in asked.fields.values() for word in words) > MOST_LETTERS:
             raise WordsFault("the form is too long")
         with self.lock:
             key = secrets.token_hex(16)
@@ -248,7 +247,7 @@ class Jobs:
         files = self.uploads[folder.name]
         if len(files) >= MOST_FILES:
             raise WordsFault(f"files: found more than {MOST_FILES:,}; expected at most {MOST_FILES:,} at a time")
-        free = plain if plain not in (own.name for own in files) else f"{len(files)} {plain}"
+        free = plain if plain not in (given.name for given in files) else f"{len(files)} {plain}"
         path = folder / f"upload-{len(files) + 1}"
         files.append(Given(str(path), free))
         return path
@@ -270,20 +269,20 @@ def too_many(what: str, found: int, most: int) -> WordsFault:
 def private_folder() -> Iterator[Path]:
     """A new folder for the time of the block, whose lock is held: so another desk leaves it alone."""
     remove_left_folders(Path(tempfile.gettempdir()))
-    with tempfile.TemporaryDirectory(prefix=PREFIX, ignore_cleanup_errors=True) as own:
-        with open(Path(own) / LOCK, "wb") as lock:
-            with opening.telling_of_locks(own):
+    with tempfile.TemporaryDirectory(prefix=PREFIX, ignore_cleanup_errors=True) as folder:
+        with open(Path(folder) / LOCK, "wb") as lock:
+            with opening.telling_of_locks(folder):
                 fcntl.flock(lock, fcntl.LOCK_EX)
-            yield Path(own)
+            yield Path(folder)
 
 
 def remove_left_folders(place: Path) -> None:
     """Removes the folders of desks that were killed: nobody holds their locks."""
-    for own in place.glob(f"{PREFIX}*"):
+    for folder in place.glob(f"{PREFIX}*"):
         with contextlib.suppress(OSError):
-            file = os.open(own / LOCK, os.O_RDWR | os.O_NOFOLLOW)
+            file = os.open(folder / LOCK, os.O_RDWR | os.O_NOFOLLOW)
             try:
                 fcntl.flock(file, fcntl.LOCK_EX | fcntl.LOCK_NB)
-                shutil.rmtree(own, ignore_errors=True)
+                shutil.rmtree(folder, ignore_errors=True)
             finally:
                 os.close(file)

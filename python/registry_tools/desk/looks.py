@@ -47,15 +47,15 @@ class Look:
     rows: list[tuple[str, list[str]]] = field(default_factory=list)
 
 
-def look_at_incoming(own: Reading, by: By, files: list[Given], again: list[tuple[int, int]], forms: Forms) -> Look:
+def look_at_incoming(reading: Reading, by: By, files: list[Given], again: list[tuple[int, int]], forms: Forms) -> Look:
     """What would come of files, with the rows, by file and line, that are meant once more."""
     words = tuple(f"{files[place].path}:{line}" for place, line in again)
     asked = HandIn(tuple(files), words, forms)
     try:
-        with own.anew() as office, office.trying("hand-in", by):
+        with reading.anew() as office, office.trying("hand-in", by):
             added = hand_in.added(office, asked)
-            there = intake.for_the_next_day(office.store)
-            rows = [(part.name, there.rows(part).rows[:MOST_ROWS]) for part in added.parts]
+            handed_in = intake.for_the_next_day(office.store)
+            rows = [(part.name, handed_in.rows(part).rows[:MOST_ROWS]) for part in added.parts]
         looked = [tried for tried in added.looked if tried.place in added.places()]
         return Look([], None, added, looked, rows)
     except hand_in.HadFault as fault:
@@ -69,7 +69,7 @@ def look_at_incoming(own: Reading, by: By, files: list[Given], again: list[tuple
 
 def is_typed(files: list[Given]) -> bool:
     """Whether an instruction was typed: then no file was chosen."""
-    return [own.named for own in files] == [TYPED]
+    return [given.named for given in files] == [TYPED]
 
 
 def faults_of_table(fault: TableFault, is_of_form: bool) -> list[str]:
@@ -77,7 +77,7 @@ def faults_of_table(fault: TableFault, is_of_form: bool) -> list[str]:
     fields."""
     if not is_of_form:
         return str(fault).split("\n")
-    return [f"{label(own.field)}: found {own.found}; expected {own.expected}" for own in fault.wrong[:MOST_TOLD]]
+    return [f"{label(cell.field)}: found {cell.found}; expected {cell.expected}" for cell in fault.wrong[:MOST_TOLD]]
 
 
 def edits_asked(asked: list[tuple[str, str]]) -> list[Edit]:
@@ -94,9 +94,9 @@ def edits_asked(asked: list[tuple[str, str]]) -> list[Edit]:
     return made or words_of_change.edits_of(parser.parse_args([word for _, word in asked]))
 
 
-def look_at_change(own: Reading, by: By, edits: list[Edit]) -> Changed:
+def look_at_change(reading: Reading, by: By, edits: list[Edit]) -> Changed:
     """What a change by hand would make of the next day."""
-    with own.anew() as office:
+    with reading.anew() as office:
         return change.change_by_hand(office, by, Change(tuple(edits), NO_REASON))
 
 
@@ -111,56 +111,56 @@ class Second:
     sum: str = ""
 
 
-def look_at_waiting(own: Reading, handed_in: HandedIn, waits: approvals.Waits) -> Second:
+def look_at_waiting(reading: Reading, handed_in: HandedIn, waits: approvals.Waits) -> Second:
     """What something that waits for another login makes of the next day."""
     part = waits.part
     if part is None:
-        return Second(waits)
+        return Second(waits, items=[(row, "") for row in waits.rows])
 
     def work() -> Second:
         assert part is not None
-        office, rows = own.office(), approve.rows_left(handed_in, part)
-        becomes, outcomes = change.look_at_waiting(office, handed_in, part), outcomes_with(own, handed_in, part)
-        there = [item for item in handed_in.items_left(part)] if part.kind in (intake.DO, intake.WORK) else []
-        items = [(item_in_words(item), outcomes.get(item.place, "")) for item in there]
+        office, rows = reading.office(), approve.rows_left(handed_in, part)
+        becomes, outcomes = change.look_at_waiting(office, handed_in, part), outcomes_with(reading, handed_in, part)
+        items_left = [item for item in handed_in.items_left(part)] if part.kind in (intake.DO, intake.WORK) else []
+        items = [(item_in_words(item), outcomes.get(item.place, "")) for item in items_left]
         return Second(waits, [*side_by_side(becomes)], items, sum_of_outcome([*rows, *becomes]))
 
-    return own.of_next(f"place {part.start}", own.dates()[0], work)
+    return reading.of_next(f"place {part.start}", reading.dates()[0], work)
 
 
-def outcomes_with(own: Reading, handed_in: HandedIn, part: Part) -> dict[int, str]:
+def outcomes_with(reading: Reading, handed_in: HandedIn, part: Part) -> dict[int, str]:
     """What would come of instructions that wait for another login, by their places, if they counted."""
     if part.kind != intake.DO:
         return {}
     others = [each for each in handed_in.waiting if each.start != part.start]
     # (what keeps them out of the next day is told where that day is made)
     with contextlib.suppress(Fault):
-        office = own.office()
+        office = reading.office()
         date = composing.settlement_date(office, handed_in)
         next_day = composing.compose(office, replace(handed_in, waiting=others).until(date), date)
-        looked = trial.look(next_day, next_day.day(), own.names())
+        looked = trial.look(next_day, next_day.day(), reading.names())
         return {tried.place: f"{tried.said()} {tried.why}".rstrip() for tried in looked if tried.place is not None}
     return {}
 
 
-def look_at_undo(own: Reading, by: By, last: datetime.date, date: datetime.date) -> tuple[Rows, Rows, str]:
+def look_at_undo(reading: Reading, by: By, last: datetime.date, date: datetime.date) -> tuple[Rows, Rows, str]:
     """What would be handed in again, and what would wait again, if the last day was taken back for this day; and the
     sum of that."""
-    with own.anew() as office, office.trying("undo", by):
+    with reading.anew() as office, office.trying("undo", by):
         filed = undo.last_of(office, last)
         undo.taken_back(office, filed, date, NO_REASON, "")
-        there = approvals.handed_in_of(office)
-        rows: Rows = [(i.place, item_in_words(i), i.part.name, i.part.who) for i in there.items(*intake.KINDS)]
+        handed_in = approvals.handed_in_of(office)
+        rows: Rows = [(i.place, item_in_words(i), i.part.name, i.part.who) for i in handed_in.items(*intake.KINDS)]
         waits = [(str(w.due or ""), w.record, instruction_in_words(w.instruction)) for w in waits_of(office)]
         return rows, [*waits], sum_of_outcome(undo.comes_again(office))
 
 
-def look_at_names(own: Reading, asked: list[str]) -> tuple[list[Label], Labels, list[str]]:
+def look_at_names(reading: Reading, asked: list[str]) -> tuple[list[Label], Labels, list[str]]:
     """What names would be new, which there are before, and what may be a slip, by the words of the command. Raises what
     the command does."""
     parser = TellingWords()
     words_of_names.add_words(parser)
-    said, before = parser.parse_args(asked), own.names()
-    words_of_names.must_fit(said)
-    new = labelling.new_of([*words_of_names.asked_of(said)], before)
-    return new, before, [*labelling.doubts_of(own.office(), new, before)]
+    given, before = parser.parse_args(asked), reading.names()
+    words_of_names.must_fit(given)
+    new = labelling.new_of([*words_of_names.asked_of(given)], before)
+    return new, before, [*labelling.doubts_of(reading.office(), new, before)]

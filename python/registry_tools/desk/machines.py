@@ -31,9 +31,9 @@ WORDS = "files, each with name and text, or base64; and where wanted again, date
 CODES: tuple[tuple[type[Exception], int], ...] = ((RightsFault, 403), (FileFault, 409), (WordsFault, 400))
 
 
-def answer(own: object, code: int = 200) -> Response:
+def answer(value: object, code: int = 200) -> Response:
     """An answer as JSON. (A byte of a name that is no UTF-8 is told as JSON tells it.)"""
-    content = json.dumps(own, indent=1, ensure_ascii=False) + "\n"
+    content = json.dumps(value, indent=1, ensure_ascii=False) + "\n"
     return Response(content.encode("utf-8", "backslashreplace"), code, content_type=KIND)
 
 
@@ -44,7 +44,7 @@ def told(view: Callable[[Served], Response], served: Served) -> Response:
     except (FileFault, WordsFault) as fault:
         code = next(code for kind, code in CODES if isinstance(fault, kind))
         log.told(f"{gate.known_name(served)} asked {flask.request.path}: {code}")
-        faults = [asdict(outcomes.data_of(own)) for own in fault.parts()]
+        faults = [asdict(outcomes.data_of(each)) for each in fault.parts()]
         return answer({"status": fault.status, "faults": faults}, code)
 
 
@@ -68,9 +68,9 @@ def hand_in(served: Served) -> Response:
     log.begun("hand-in", gate.known_name(served), gate.head().peer)
     with served.jobs.looking, served.reading.anew() as office:
         came = handing.hand_in(office, by, HandIn(tuple(files), again, Forms(dates=str(dates) if dates else None)))
-    parts = [{"name": own.name, "what": intake.NAMES[own.kind], "count": own.count, "first": own.start,
-              "last": own.end - 1} for own in came.parts]  # fmt: skip
-    looked = [own for own in came.looked if own.place in came.places()]
+    parts = [{"name": part.name, "what": intake.NAMES[part.kind], "count": part.count, "first": part.start,
+              "last": part.end - 1} for part in came.parts]  # fmt: skip
+    looked = [tried for tried in came.looked if tried.place in came.places()]
     more = {"handed_in": parts, "waits": came.waits, "again": came.again}
     return answer(as_data(str(came.next_day.date), looked, came.next_day.notes) | more)
 
@@ -87,21 +87,21 @@ def files_of(sent: Any) -> list[Given]:
     """The files that a program sends, under the names that it gives them. Raises WordsFault."""
     if not isinstance(sent, dict) or not list_of(sent.get("files", [])):
         raise WordsFault(f"expected JSON: an object with {WORDS}")
-    return [given(own) for own in list_of(sent["files"])]
+    return [given(each) for each in list_of(sent["files"])]
 
 
-def list_of(own: Any) -> Sequence[Any]:
+def list_of(value: Any) -> Sequence[Any]:
     """A list that a program sends. Raises WordsFault if it is none."""
-    if not isinstance(own, list):
+    if not isinstance(value, list):
         raise WordsFault(f"expected a list: {WORDS}")
-    return own
+    return value
 
 
-def given(own: Any) -> Given:
+def given(file: Any) -> Given:
     """A file that a program sends. Raises WordsFault."""
     try:
-        name = str(own["name"])
-        content: bytes = own["text"].encode() if "text" in own else base64.b64decode(own["base64"], validate=True)
+        name = str(file["name"])
+        content: bytes = file["text"].encode() if "text" in file else base64.b64decode(file["base64"], validate=True)
     except (KeyError, TypeError, AttributeError, ValueError, binascii.Error):
         raise WordsFault(f"expected {WORDS}") from None
     if not name.strip() or not name.isprintable():
@@ -111,10 +111,11 @@ def given(own: Any) -> Given:
 
 def as_data(date: str, looked: Sequence[trial.Looked], notes: Sequence[str]) -> dict[str, Any]:
     """What would come of instructions, as data; `status` is the exit status of the command."""
-    rows = [{"place": own.place, "row": own.do_row, "words": own.words,
-             "outcome": "waits" if own.waits else "refused" if own.is_refused else "done",
-             "check": own.outcome if own.is_refused else None, "due": own.due or None} for own in looked]  # fmt: skip
+    rows = [{"place": each.place, "row": each.do_row, "words": each.words,
+             "outcome": "waits" if each.waits else "refused" if each.is_refused else "done",
+             "check": each.outcome if each.is_refused else None, "due": each.due or None}
+            for each in looked]  # fmt: skip
     return {
-        "status": FOUND if any(own.is_refused for own in looked) else 0, "date": date, "instructions": rows,
+        "status": FOUND if any(each.is_refused for each in looked) else 0, "date": date, "instructions": rows,
         "notes": [*worth_telling(notes)],
     }  # fmt: skip

@@ -74,9 +74,9 @@ def own_of(served: Served, person: Person) -> Own:
     return Own(settled, person.tied_to(HOLDER) or 0, served.reading.accounts_of_holders())
 
 
-def statements_of(served: Served, own: Own) -> Statements:
+def statements_of(served: Served, of_holder: Own) -> Statements:
     """The statements of all accounts of the holder."""
-    return served.reading.of_days(lambda there: own.statements(there, DAYS_OF_STATEMENT))
+    return served.reading.of_days(lambda days: of_holder.statements(days, DAYS_OF_STATEMENT))
 
 
 # What is shown.
@@ -84,68 +84,69 @@ def statements_of(served: Served, own: Own) -> Statements:
 
 def today(served: Served, person: Person) -> Any:
     """The page of what is to be done, what waits, and what was refused."""
-    own, office = own_of(served, person), served.reading.office()
-    there, name, date = statements_of(served, own), office.settings.name, own.settled.head.date
-    refused = [(number, *row[:1], *row[2:]) for number, each in there.items() for row in each.refused]
-    waits = [(number, *row[1:]) for number, each in there.items() for row in each.waiting()]
+    of_holder, office = own_of(served, person), served.reading.office()
+    statements, name, date = statements_of(served, of_holder), office.settings.name, of_holder.settled.head.date
+    refused = [(number, *row[:1], *row[2:]) for number, each in statements.items() for row in each.refused]
+    waits = [(number, *row[1:]) for number, each in statements.items() for row in each.waiting()]
     return show_page(
-        "own_today", f"{name}, today" if name else "Today", tasks=own.tasks(office.settings.due), date=date,
-        holder=own.settled.names.holder(own.holder), accounts=account_rows(own), refused=[*reversed(refused)],
-        waits=waits, handed=own.handed_in(office, gate.by(served).login), next=asking.next_day(office, own),
+        "own_today", f"{name}, today" if name else "Today", tasks=of_holder.tasks(office.settings.due), date=date,
+        holder=of_holder.settled.names.holder(of_holder.holder), accounts=account_rows(of_holder),
+        refused=[*reversed(refused)], waits=waits, handed=of_holder.handed_in(office, gate.by(served).login),
+        next=asking.next_day(office, of_holder),
         shown_account=lambda row: (link(f"/accounts/{row[0]}", row[0]), *row[1:4], *map(grouped, row[4:])),
         may_ask=person.tied_to(USER) and not served.is_look,
     )  # fmt: skip
 
 
-def account_rows(own: Own) -> list[tuple[Any, ...]]:
+def account_rows(of_holder: Own) -> list[tuple[Any, ...]]:
     """The accounts of the holder."""
-    rows = (block.rows[0].split(",") for block in own.book.values())
-    return [(int(row[1]), own.settled.names.name_of("account", row[1]), row[2], row[4], int(row[8]), int(row[9]))
+    rows = (block.rows[0].split(",") for block in of_holder.book.values())
+    return [(int(row[1]), of_holder.settled.names.name_of("account", row[1]), row[2], row[4], int(row[8]), int(row[9]))
             for row in rows]  # fmt: skip
 
 
 def account(served: Served, person: Person, number: int) -> Any:
     """The page of an account, with its statement."""
-    own = own_of(served, person)
-    if number not in own.book:
+    of_holder = own_of(served, person)
+    if number not in of_holder.book:
         return gate.said(404, NOTHING)
-    told = [*letter.parts_of(own.settled, statements_of(served, own)[number])]
+    told = [*letter.parts_of(of_holder.settled, statements_of(served, of_holder)[number])]
     return show_page("own_account", f"Account {number}", own=told, number=number, may_ask=person.tied_to(USER))
 
 
 def compliance(served: Served, person: Person) -> Any:
     """The page of compliance for a year."""
-    own, year, rows = standings_asked(served, person)
-    cells = [dict(zip(standing.COLUMNS, standing.operator_cells(own.settled, each))) for each in rows]
+    of_holder, year, rows = standings_asked(served, person)
+    cells = [dict(zip(standing.COLUMNS, standing.operator_cells(of_holder.settled, each))) for each in rows]
     return show_page("own_compliance", f"Compliance for {year}", year=year, columns=COLUMNS,
                      rows=[[each[name] for name in COLUMNS] for each in cells])  # fmt: skip
 
 
 def standings_asked(served: Served, person: Person) -> tuple[Own, int, list[answers.Standing]]:
     """How the accounts stand for the year of the address."""
-    own = own_of(served, person)
-    head, word = own.settled.head, asked("year")
+    of_holder = own_of(served, person)
+    head, word = of_holder.settled.head, asked("year")
     if word and not (word.isascii() and word.isdigit() and head.period_of(int(word[:5])) is not None):
         raise NotTaken(f"Year: expected one of the periods of the registry, as {head.date.year - 1}")
     year = number_asked("year") or answers.last_year_over(head)
-    return own, year, own.standings(year)
+    return of_holder, year, of_holder.standings(year)
 
 
 def file(served: Served, person: Person, what: str, kind: str, number: int = 0) -> Response:
     """A table of the accounts, as a file."""
-    own = own_of(served, person)
+    of_holder = own_of(served, person)
     if what == "accounts":
-        rows: list[Sequence[Any]] = [(row[0], row[2], own.holder, *row[3:]) for row in account_rows(own)]
+        rows: list[Sequence[Any]] = [(row[0], row[2], of_holder.holder, *row[3:]) for row in account_rows(of_holder)]
         return rows_file(served, kind, what, OF_ACCOUNTS, rows)
     if what == "compliance":
         return rows_file(served, kind, what, answers.COLUMNS, [*map(answers.cells, standings_asked(served, person)[2])])
     if what == "waiting":
-        there = own.handed_in(served.reading.office(), gate.by(served).login)
-        told = [(each.account, each.words, each.proposed, each.by, each.waits or "counts") for each in there]
+        handed = of_holder.handed_in(served.reading.office(), gate.by(served).login)
+        told = [(each.account, each.words, each.proposed, each.by, each.waits or "counts") for each in handed]
         return rows_file(served, kind, what, OF_WAITING, told)
-    if number not in own.book:
+    if number not in of_holder.book:
         return gate.said(404, NOTHING)
-    entries = statements_of(served, own)[number].entries
+    entries = statements_of(served, of_holder)[number].entries
     rows = [(str(row[0]), of, row[2], row[3], *(int(str(cell).replace(",", "") or 0) for cell in row[4:]))
             for of in KINDS for row in entries[of]]  # fmt: skip
     return rows_file(served, kind, "statement", OF_STATEMENT, rows)
@@ -157,40 +158,42 @@ def file(served: Served, person: Person, what: str, kind: str, number: int = 0) 
 def hand_in(served: Served, person: Person) -> Any:
     """The form of an instruction, and the look at what it says."""
     asking.own_user(person)
-    own, act, word = own_of(served, person), asked("act"), asked("account")
-    fields = fields_of(own, person, act, int(word)) if act in asking.ACTS and word in map(str, own.book) else []
-    said = {name: asked(name) for name in flask.request.args}
-    row, wrong = row_asked(served, own, person, said) if fields and asked("look") else (b"", [])
-    return look_at(own, person, said, fields, row, wrong)
+    of_holder, act, word = own_of(served, person), asked("act"), asked("account")
+    may_be = act in asking.ACTS and word in map(str, of_holder.book)
+    fields = fields_of(of_holder, person, act, int(word)) if may_be else []
+    answers = {name: asked(name) for name in flask.request.args}
+    row, wrong = row_asked(served, of_holder, person, answers) if fields and asked("look") else (b"", [])
+    return look_at(of_holder, person, answers, fields, row, wrong)
 
 
 def look_at(
-    own: Own, person: Person, said: Mapping[str, str], fields: list[Field], row: bytes, wrong: list[str],
+    of_holder: Own, person: Person, answers: Mapping[str, str], fields: list[Field], row: bytes, wrong: list[str],
     had: str = "",
 ) -> Any:  # fmt: skip
     """The page of the form, with what it says."""
-    act, number = said.get("act", ""), said.get("account", "")
+    act, number = answers.get("act", ""), answers.get("account", "")
     code = 400 if wrong and flask.request.method == "POST" else 200
+    users = asking.approvers(of_holder, person, act, int(number)) if fields else []
     return show_page(
         "own_hand_in", "Ask for something", code, act=act, acts=asking.ACTS, account=number,
-        accounts=[*own.book], fields=fields, wrong=wrong, had=had, said=said,
-        row="" if wrong or not row else own.words_of(row.decode().splitlines()[0]),
-        users=[*map(own.settled.names.user, asking.approvers(own, person, act, int(number)))] if fields else [],
+        accounts=[*of_holder.book], fields=fields, wrong=wrong, had=had, said=answers,
+        row="" if wrong or not row else of_holder.words_of(row.decode().splitlines()[0]),
+        users=[*map(of_holder.settled.names.user, users)],
     )  # fmt: skip
 
 
-def fields_of(own: Own, person: Person, act: str, number: int) -> list[Field]:
+def fields_of(of_holder: Own, person: Person, act: str, number: int) -> list[Field]:
     """What the form of an instruction asks for, beside its account."""
-    users = ["", *asking.approvers(own, person, act, number)]
+    users = ["", *asking.approvers(of_holder, person, act, number)]
     names = [name for name in sheets.columns_of_act(act) if name != passing.FIRST[act]]
     return [*(Field(name, label(name), "", CHOICES.get(name, ())) for name in names),
             Field("approver", "User who approves", "", users)]  # fmt: skip
 
 
-def row_asked(served: Served, own: Own, person: Person, said: Mapping[str, str]) -> tuple[bytes, list[str]]:
+def row_asked(served: Served, of_holder: Own, person: Person, answers: Mapping[str, str]) -> tuple[bytes, list[str]]:
     """The row that a form says, and what is wrong with it."""
-    date = asking.next_day(served.reading.office(), own)
-    row = forms.rows_of_instruction(asking.words_asked(own, person, said, date))
+    date = asking.next_day(served.reading.office(), of_holder)
+    row = forms.rows_of_instruction(asking.words_asked(of_holder, person, answers, date))
     try:
         asking.read(row)
     except TableFault as fault:
@@ -202,25 +205,25 @@ def row_asked(served: Served, own: Own, person: Person, said: Mapping[str, str])
 
 def ask(served: Served, person: Person) -> Any:
     """Hands in what the form says."""
-    own, said = own_of(served, person), flask.request.form.to_dict()
-    row, wrong = row_asked(served, own, person, said)
-    fields = fields_of(own, person, said["act"], int(said["account"]))
+    of_holder, answers = own_of(served, person), flask.request.form.to_dict()
+    row, wrong = row_asked(served, of_holder, person, answers)
+    fields = fields_of(of_holder, person, answers["act"], int(answers["account"]))
     if wrong:
-        return look_at(own, person, said, fields, row, wrong)
+        return look_at(of_holder, person, answers, fields, row, wrong)
     try:
         with served.jobs.looking, served.reading.anew() as office:
-            asking.ask(office, gate.by(served), own, row, bool(form("again")))
+            asking.ask(office, gate.by(served), of_holder, row, bool(form("again")))
     except asking.AskedBefore as fault:
-        return look_at(own, person, said, fields, row, [], str(fault))
+        return look_at(of_holder, person, answers, fields, row, [], str(fault))
     log.begun("hand-in", str(person), gate.head().peer)
     return flask.redirect("/#handed", 303)
 
 
 def approve(served: Served, person: Person) -> Any:
     """Approves what another login of the holder asked for."""
-    own = own_of(served, person)
+    of_holder = own_of(served, person)
     with served.jobs.looking, served.reading.anew() as office:
-        asking.approve_own(office, gate.by(served), own, form("key"))
+        asking.approve_own(office, gate.by(served), of_holder, form("key"))
     log.begun("approve", str(person), gate.head().peer)
     return flask.redirect("/#handed", 303)
 

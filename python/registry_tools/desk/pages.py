@@ -43,7 +43,7 @@ TAKEN = ["Place", "What", "Who took it back", "At", "Why"]
 HANDED_IN, FILES = ["Place", "What", "File or reason", "Who"], ["File or reason", "What", "Who", "At"]
 WAITING = ["Due", "Record", "Instruction"]
 # What there are empty tables of.
-EMPTY = [own for own in form.WHAT if own != form.LABELS]
+EMPTY = [what for what in form.WHAT if what != form.LABELS]
 SECOND = "by the second answer alone: then nothing is proved"
 # So many dates are told that come next, and over so many days holdings are shown.
 MOST_COMING, DAYS_HELD = 5, 22
@@ -55,8 +55,8 @@ RELEASED = (
 
 def today(served: Served) -> Any:
     """The page of what is to be done today."""
-    own = served.reading
-    office, handed_in = own.office(), own.handed_in()
+    reading = served.reading
+    office, handed_in = reading.office(), reading.handed_in()
     last = office.last()
     items = [
         (item.place, item_in_words(item), item.part.name, item.part.who, voice.time(item.part.at))
@@ -69,27 +69,27 @@ def today(served: Served) -> Any:
     looked: list[Looked] = []
     # (where the next day cannot be made, its own page says why)
     with contextlib.suppress(WordsFault):
-        looked = own.tried(None)[1] if items or waits else []
-    seconds = [looks.look_at_waiting(own, handed_in, waits) for waits in approvals.all_waiting(office, handed_in)]
-    mine = [each for each in seconds if is_for(served, office, each.waits)]
+        looked = reading.tried(None)[1] if items or waits else []
+    seconds = [looks.look_at_waiting(reading, handed_in, waits) for waits in approvals.all_waiting(office, handed_in)]
+    for_reader = [each for each in seconds if is_for(served, office, each.waits)]
     name = office.settings.name
     return show_page(
         "today", f"{name}, today" if name else "Today", last=last, is_released=office.events.is_released(),
-        items=items, waits=waits, came=own.came,
+        items=items, waits=waits, came=reading.came,
         missed=due.missed_days(office), taken=[*map(row_of_taken, receipts.of(handed_in))],
-        coming=due.next_dates(office, MOST_COMING), dates=own.dates(), doubts=due.doubts_of_last(office),
-        new=[tried for tried in looked if tried.is_new], mine=mine, figures=figures_of(looked, len(seconds)),
-        seconds=[each for each in seconds if each not in mine], **standing_now(own),
+        coming=due.next_dates(office, MOST_COMING), dates=reading.dates(), doubts=due.doubts_of_last(office),
+        new=[tried for tried in looked if tried.is_new], mine=for_reader, figures=figures_of(looked, len(seconds)),
+        seconds=[each for each in seconds if each not in for_reader], **standing_now(reading),
     )  # fmt: skip
 
 
 def approve_page(served: Served) -> Any:
     """The page of what waits for another login, each as a whole, of which who may approve several chooses some."""
-    own = served.reading
-    office, handed_in = own.office(), own.handed_in()
-    there = [looks.look_at_waiting(own, handed_in, waits) for waits in approvals.all_waiting(office, handed_in)]
-    mine = {each.waits.words for each in there if is_for(served, office, each.waits)}
-    return show_page("approve", "Approve", there=there, mine=mine)
+    reading = served.reading
+    office, handed_in = reading.office(), reading.handed_in()
+    seconds = [looks.look_at_waiting(reading, handed_in, waits) for waits in approvals.all_waiting(office, handed_in)]
+    for_reader = {each.waits.words for each in seconds if is_for(served, office, each.waits)}
+    return show_page("approve", "Approve", there=seconds, mine=for_reader)
 
 
 def figures_of(looked: list[Looked], seconds: int) -> list[tuple[str, int, str]]:
@@ -107,25 +107,26 @@ def is_for(served: Served, office: Office, waits: approvals.Waits) -> bool:
     if waits.part is None or served.is_look:
         return False
     with contextlib.suppress(WordsFault):
-        mine = replace(office, login=gate.by(served).login)
-        commands = approvals.commands_for(office, waits.part, mine.login)
-        approve.must_be_other(mine, commands, waits.part.who, waits.part.login)
+        as_reader = replace(office, login=gate.by(served).login)
+        commands = approvals.commands_for(office, waits.part, as_reader.login)
+        approve.must_be_other(as_reader, commands, waits.part.who, waits.part.login)
         return True
     return False
 
 
-def standing_now(own: Reading) -> dict[str, Any]:
+def standing_now(reading: Reading) -> dict[str, Any]:
     """What all accounts hold, and who is missing how much by when, after the last day, if there is one."""
-    settled = own.settled()
+    settled = reading.settled()
     if settled is None:
         return {}
-    year, held = last_year_over(settled.head), own.held_over(DAYS_HELD)
-    missing = [(one.account.number, int(one.missing), one.account.holder) for one in own.standings(year) if one.missing]
-    until, most = own.office().settings.due.surrender_of(year), max((row[1] for row in missing), default=0)
+    year, held = last_year_over(settled.head), reading.held_over(DAYS_HELD)
+    lacking = [standing for standing in reading.standings(year) if standing.missing]
+    missing = [(each.account.number, int(each.missing or 0), each.account.holder) for each in lacking]
+    until, most = reading.office().settings.due.surrender_of(year), max((row[1] for row in missing), default=0)
 
     def cells(row: Sequence[Any]) -> Sequence[Any]:
-        account = link(f"/accounts/{row[0]}", own.names().account(row[0]))
-        return joined_words(account, own.names().holder(row[2])), grouped(row[1]), pictures.length_of(row[1], most)
+        account = link(f"/accounts/{row[0]}", reading.names().account(row[0]))
+        return joined_words(account, reading.names().holder(row[2])), grouped(row[1]), pictures.length_of(row[1], most)
 
     return {"held": pictures.holdings(held), "year": year, "until": long_date(until) if until else "",
             "missing": sorted(missing, key=lambda row: -int(row[1])), "shown_missing": cells}  # fmt: skip
@@ -133,21 +134,22 @@ def standing_now(own: Reading) -> dict[str, Any]:
 
 def hand_in(served: Served) -> Any:
     """The page with the forms for instructions and files."""
-    act, own = asked("act") if asked("act") in faults.ACT_WORDS else "", served.reading
+    act, reading = asked("act") if asked("act") in faults.ACT_WORDS else "", served.reading
     # (behind a no, the field has what was typed)
     word = flask.request.args.get(passing.FIRST.get(act, "of"), "") or flask.request.args.get("of", "")
-    of = forms.account_meant(own, word.strip()) if word else None
+    of = forms.account_meant(reading, word.strip()) if word else None
     return show_page(
-        "hand_in", "Hand in", act=act, fields=forms.instruction_fields(own, act, of) if act else [], empty=EMPTY,
-        of=of, of_account=forms.told_of_account(own, of) if of else "", users=forms.users_entitled(own, act, of),
-        known=forms.accounts_offered(own) if act else [], cut=forms.cut_told(own) if act else "",
+        "hand_in", "Hand in", act=act, fields=forms.instruction_fields(reading, act, of) if act else [], empty=EMPTY,
+        of=of, of_account=forms.told_of_account(reading, of) if of else "",
+        users=forms.users_entitled(reading, act, of),
+        known=forms.accounts_offered(reading) if act else [], cut=forms.cut_told(reading) if act else "",
         dates=forms.DATES, later=forms.LATER, look=asked("look"), chosen=asks.chosen(served, asked("look")),
     )  # fmt: skip
 
 
 def next_day(served: Served) -> Any:
     """The page of the next day as it stands."""
-    own, looked, otherwise = served.reading.tried(asked("date") or None)
+    following, looked, otherwise = served.reading.tried(asked("date") or None)
     kinds: dict[str, Callable[[Looked], bool]] = {
         "": lambda tried: True, "refused": lambda tried: tried.is_refused, "waiting": lambda tried: tried.waits,
         "new": lambda tried: tried.is_new,
@@ -159,13 +161,13 @@ def next_day(served: Served) -> Any:
     counts = {name: sum(map(is_so, looked)) for name, is_so in kinds.items()}
 
     def cells(row: Sequence[Any]) -> Sequence[Any]:
-        place, said, _, tried = row
-        return box(served, place) if place else "waited", said, shown.outcome(tried), "new" if tried.is_new else ""
+        place, outcome, _, tried = row
+        return box(served, place) if place else "waited", outcome, shown.outcome(tried), "new" if tried.is_new else ""
 
     return show_page(
-        "next", "The next day", date=own.date, rows=rows, shown_row=cells, only=only, counts=counts,
+        "next", "The next day", date=following.date, rows=rows, shown_row=cells, only=only, counts=counts,
         views=views_of("/next?only={}", counts), whys=whys([row[3] for row in rows]),
-        notes=[*own.notes, *otherwise],
+        notes=[*following.notes, *otherwise],
         others=[(item.place, item_in_words(item), item.part.name, item.part.who) for item in items], columns=HANDED_IN,
         shown_other=lambda row: (box(served, row[0]), *row[1:]), taken=[*map(row_of_taken, gone)],
     )  # fmt: skip
@@ -181,33 +183,33 @@ def box(served: Served, place: int) -> object:
     if served.is_look:
         return place
     is_chosen = " checked" if str(place) in flask.request.args.getlist("places") else ""
-    own = Markup(f'<input type="checkbox" name="places" value="{place}"{is_chosen}>')
-    return tag("label", own, f" {place}", class_="check")
+    field = Markup(f'<input type="checkbox" name="places" value="{place}"{is_chosen}>')
+    return tag("label", field, f" {place}", class_="check")
 
 
 def change(served: Served) -> Any:
     """The form of an account, of the rules, or of a new account, once a day is settled. Raises WordsFault if there is
     no such account."""
-    number, own = number_asked("account"), served.reading
+    number, reading = number_asked("account"), served.reading
     of = asked("of") if asked("of") in ("rules", "new") and number is None else "account"
-    if own.office().last() is None:
+    if reading.office().last() is None:
         other = f"Until then another first text, by {voice.command('init')}, is in place of a change."
         return gate.said(400, f"{gate.NO_DAY} {other}")
-    day = own.text_of_next()
+    day = reading.text_of_next()
     if number is not None and number not in day.book:
         raise WordsFault(f"there is no account {number} in the next day's text")
     fields = [*forms.rule_fields(day)] if of == "rules" else forms.OF_NEW
     if number is not None:
         fields = [*forms.account_fields(day.book[number], len(day.head.periods))]
-    known = forms.accounts_offered(own) if of == "account" and number is None else []
-    return show_page("change", "Change", account=number, of=of, date=day.head.date, fields=fields, known=known,
-                     cut=forms.cut_told(own))  # fmt: skip
+    accounts = forms.accounts_offered(reading) if of == "account" and number is None else []
+    return show_page("change", "Change", account=number, of=of, date=day.head.date, fields=fields, known=accounts,
+                     cut=forms.cut_told(reading))  # fmt: skip
 
 
 def close(served: Served) -> Any:
     """The page that asks whether the next day is settled."""
-    own, why, outcome_of, comes = served.reading, "", None, ""
-    dates, program = own.dates(), own.office().settings.program
+    reading, why, outcome_of, comes = served.reading, "", None, ""
+    dates, program = reading.dates(), reading.office().settings.program
     # (by its name alone: where a program lies on the disk is nothing for a page)
     settler = settlement.settler_in_words(os.path.basename(program))
     is_built = settler == settlement.BY_RUN
@@ -215,7 +217,7 @@ def close(served: Served) -> Any:
     engines = [("", f"by {named}, and compared with the second answer")] if settler else []
     date = asked("other") or asked("date") or str(dates[0])
     try:
-        (outcome_of, comes), left = own.closing(date)
+        (outcome_of, comes), left = reading.closing(date)
         notes = [*outcome_of.notes, *left, *compliant_told(outcome_of)]
     except Fault as fault:
         why, notes = str(fault), []
@@ -242,7 +244,7 @@ def totals_of(before: Mapping[str, Sums], after: Mapping[str, Sums]) -> Markup:
 def day_rows(served: Served) -> list[tuple[Any, ...]]:
     """All settled days, the last one first."""
     told = receipts.days_told(served.reading.office())
-    return [(str(own.date), own.who, voice.time(own.at), own.next - own.first, *more) for own, *more in told]
+    return [(str(each.date), each.who, voice.time(each.at), each.next - each.first, *more) for each, *more in told]
 
 
 def days(served: Served) -> Any:
@@ -254,26 +256,26 @@ def days(served: Served) -> Any:
 
 def undo(served: Served) -> Any:
     """The page that asks whether the last day is taken back, and says what that does. WordsFault if it can't be."""
-    own, by = served.reading, gate.by(served)
-    with own.moment():
-        office = own.office()
-        there = office.last()
-        last = undoing.last_of(office, there.date if there else None)
+    reading, by = served.reading, gate.by(served)
+    with reading.moment():
+        office = reading.office()
+        filed = office.last()
+        last = undoing.last_of(office, filed.date if filed else None)
         date = undoing.date_again(office, last, date_of("the day", asked("date")) if asked("date") else None)
-        settled, before = own.settled(last.date), [event.date for event in office.events.days[:-1]][-1:]
+        settled, before = reading.settled(last.date), [event.date for event in office.events.days[:-1]][-1:]
         assert settled is not None  # (it is the last day)
-    again, waits, comes = own.of_next("undo", date, lambda: looks.look_at_undo(own, by, last.date, date))
-    earlier = [own for own in settled.head.working_days if before and before[0] < own < last.date]
-    count, said = Counter(map(kind_of, settled.log)), long_date(last.date)
+    again, waits, comes = reading.of_next("undo", date, lambda: looks.look_at_undo(reading, by, last.date, date))
+    earlier = [each for each in settled.head.working_days if before and before[0] < each < last.date]
+    count, name = Counter(map(kind_of, settled.log)), long_date(last.date)
     told = ", ".join(f"{count[kind]} {kind}" for kind in OUTCOMES)
     records = f"its records {last.first} to {last.next - 1} ({told})" if settled.log else "no record, since it has none"
     return show_page(
-        "yes", f"Undo {said}", lead=f"{said} is not undone yet. If it is, the day goes with its report, and with it "
+        "yes", f"Undo {name}", lead=f"{name} is not undone yet. If it is, the day goes with its report, and with it "
         f"{records}. What it was made of is handed in again for {long_date(date)}, and can be closed once more.",
         told=[sorted_table("Handed in then", HANDED_IN, again, ["Place"], empty="Nothing is handed in then."),
               sorted_table("Waiting then", WAITING, waits, ["Record"], name="waits-", empty="Nothing waits then."),
               totals_of(sums_told(settled.report), sums_of(settled.day.book_rows))],
-        action="/undo/yes", button=f"Yes, undo {said}", no="/days", shown=comes,
+        action="/undo/yes", button=f"Yes, undo {name}", no="/days", shown=comes,
         choices=[last.date, *reversed(earlier)],
         fields=[("day", last.date), *([("date", date)] if date != last.date else [])], chosen=("date", date),
         words="For which day it is handed in again: an earlier one, if it was closed for a date that is too late",
@@ -286,12 +288,12 @@ def release(served: Served) -> Any:
     last = office.last()
     named = date_of("the day", asked("day")) if asked("day") else None
     day = releasing.day_to_release(office, named or (last.date if last else None))
-    touched, said = [row for row in rows if row[0] <= str(day.date)], long_date(day.date)
+    touched, name = [row for row in rows if row[0] <= str(day.date)], long_date(day.date)
     doubt = releasing.doubt_of(day)
     return show_page(
-        "yes", f"Release {said}", lead=f"{said} is not released yet. If it is, so are all days before it.",
+        "yes", f"Release {name}", lead=f"{name} is not released yet. If it is, so are all days before it.",
         told=[paragraph(RELEASED), sorted_table("Released then", DAYS[:5], [row[:5] for row in touched], ["Records"])],
-        action="/release/yes", button=f"Yes, release {said}", no="/days", doubt=doubt and f"it {doubt}",
+        action="/release/yes", button=f"Yes, release {name}", no="/days", doubt=doubt and f"it {doubt}",
         fields=[("day", day.date)], choices=[date_of("the day", row[0]) for row in rows], chosen=("day", day.date),
         words="Up to which day",
     )  # fmt: skip
@@ -299,8 +301,8 @@ def release(served: Served) -> Any:
 
 def day(served: Served, word: str) -> Any:
     """The page of a day: what the pages of ./day page say, with its log as one table. NotFound if it is not settled."""
-    date, own = date_of("the day", word), served.reading
-    settled = own.settled(date)
+    date, reading = date_of("the day", word), served.reading
+    settled = reading.settled(date)
     if settled is None:
         raise NotFound(f"no day {date} is settled: the page Days has all that are")
     only = asked("only") if asked("only") in OUTCOMES else ""
@@ -310,25 +312,26 @@ def day(served: Served, word: str) -> Any:
     accounts_of, found = settled.accounts_of, settled.found
 
     def cells(row: Sequence[Any]) -> Sequence[Any]:
-        outcome = own.outcome(word, row[0], row[3])
+        outcome = reading.outcome(word, row[0], row[3])
         why = found.get(row[0]) if kind_of(row[4]) == "refused" else None
         return *row[:2], accounts_of(row[4]), joined_words(outcome, why) if why else outcome
 
     counts = {kind: count[kind] for kind in ("", *OUTCOMES)}
     return show_page(
-        "day", long_date(date), above=[*parts_of(settled, own)], rows=rows, only=only, counts=counts, shown_row=cells,
+        "day", long_date(date), above=[*parts_of(settled, reading)], rows=rows, only=only, counts=counts,
+        shown_row=cells,
         views=views_of(f"/days/{date}?only={{}}#log", counts), plan=plan_parts(settled) if settled.log else [],
     )  # fmt: skip
 
 
-def parts_of(settled: Settled, own: Reading) -> Iterator[Markup]:
+def parts_of(settled: Settled, reading: Reading) -> Iterator[Markup]:
     """What stands above the log."""
     book = settled.rulebook
     refused = [
         (book.check_link(code), len(logged), book.words(book.checks[code].advice))
         for code, logged in settled.refused().items()
     ]
-    office, event = own.office(), own.office().events.day_of(settled.head.date)
+    office, event = reading.office(), reading.office().events.day_of(settled.head.date)
     gone = [*map(row_of_taken, receipts.of_day(office, settled.head.date))]
     files = [(*row, voice.time(at)) for *row, at in receipts.files_of(office, event)] if event else []
     yield summary.lead(settled)
@@ -339,7 +342,7 @@ def parts_of(settled: Settled, own: Reading) -> Iterator[Markup]:
     yield sorted_table("Handed in before", FILES, files, name="files-")
     yield sorted_table("Taken back before", TAKEN, gone, ["Place"], name="taken-")
     yield from (*summary.totals_parts(settled), tag("h2", "Changed by hand"))
-    by_hand = own.by_hand(settled.head.date)
+    by_hand = reading.by_hand(settled.head.date)
     yield from [paragraph("This is the first day.")] if by_hand.rows is None else by_hand_parts(settled, by_hand)
 
 

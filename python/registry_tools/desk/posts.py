@@ -14,7 +14,7 @@ from registry_tools.door import log
 from registry_tools.errors import WordsFault
 from registry_tools.office.incoming import Given
 from registry_tools.office.office import sum_of_outcome
-from registry_tools.office.people import MAY_WAIT
+from registry_tools.office.people import MAY_WAIT, REWRITE
 
 ONCE, STATE = re.compile("[0-9a-f]{16}"), re.compile("[0-9a-f]{64}")
 PLACE = re.compile("[1-9][0-9]{0,8}")
@@ -76,11 +76,11 @@ def take(served: Served) -> Any:
     """Has the files of an upload handed in."""
     asked = looked_at(served, "/hand-in")
     files, dates = served.jobs.upload(asked.place), asked.first().get("dates")
-    more = [f"--again={files[own].path}:{line}" for own, line in asks.meant_again(asked, len(files))]
+    more = [f"--again={files[place].path}:{line}" for place, line in asks.meant_again(asked, len(files))]
     more += [f"--dates={dates}"] if dates else []
     mapping = served.jobs.private / asked.place / asks.MAPPING
     more += [f"--mapping={mapping}"] if mapping.is_file() else []
-    return do(served, "hand-in", *more, *asks.names_told(files), "--", *(own.path for own in files))
+    return do(served, "hand-in", *more, *asks.names_told(files), "--", *(given.path for given in files))
 
 
 def take_back(served: Served) -> Any:
@@ -93,8 +93,8 @@ def take_back(served: Served) -> Any:
 
 def make_change(served: Served) -> Any:
     """Has a change by hand made."""
-    said = looked_at(served, "/change").first()
-    words = (word for _, word in forms.words_of_change(said, served.reading))
+    fields = looked_at(served, "/change").first()
+    words = (word for _, word in forms.words_of_change(fields, served.reading))
     return do_with_why(served, "change", "--yes", *words)
 
 
@@ -105,8 +105,7 @@ def give_names(served: Served) -> Any:
 
 def settle(served: Served) -> Any:
     """Has the next day settled and filed. What is to be looked at first wants a yes of its own."""
-    words = [f"--{name}" for name in ("second", "yes") if form(name)]
-    return do(served, "close", f"--date={form('date')}", *words)
+    return do(served, "close", f"--date={form('date')}", *(f"--{name}" for name in ("second", "yes") if form(name)))
 
 
 def undo(served: Served) -> Any:
@@ -119,13 +118,14 @@ def look_at_correction(served: Served) -> Any:
     records, files = BETWEEN.split(form("without")) if form("without") else [], list[Given]()
     if not all(map(PLACE.fullmatch, records)):
         raise WordsFault("Records that are left out: expected numbers with blanks between them")
-    chosen = [own for own in flask.request.files.getlist("files") if own.filename]
+    chosen = [file for file in flask.request.files.getlist("files") if file.filename]
     if chosen:
         place = served.jobs.new_upload(flask.request.content_length or 0)
-        for own in chosen:
-            own.save(served.jobs.place_for(place, own.filename or ""))
+        for file in chosen:
+            file.save(served.jobs.place_for(place, file.filename or ""))
         files = served.jobs.upload(place.name)
-    words = [f"--without={own}" for own in records] + [f"--with={own.path}" for own in files] + asks.names_told(files)
+    left_out, added = [f"--without={record}" for record in records], [f"--with={given.path}" for given in files]
+    words = [*left_out, *added, *asks.names_told(files)]
     return do_with_why(served, "correct", *words, *(["--second"] if form("second") else []), "--", form("day"))
 
 
@@ -152,6 +152,8 @@ def approve(served: Served) -> Any:
         return do(served, "approve", f"--shown={shown}", "--", *places)
     if form("several"):
         raise WordsFault("nothing was chosen")
+    if command == REWRITE and PLACE.fullmatch(date):
+        return do(served, "approve", "--", command, date)
     if command not in MAY_WAIT:
         raise WordsFault(NOT_WHOLE)
     return do(served, "approve", f"--date={date}", "--", command)
@@ -169,10 +171,10 @@ def send(served: Served) -> Any:
     for holder in holders:
         if not PLACE.fullmatch(holder):
             raise WordsFault(f"Only these holders: found {holder!r}; expected numbers with blanks between them")
-    own = [*(f"--{name}={form(name)}" for name in ("from", "day") if form(name))]
-    own += ["--holder", *holders] if holders else []
+    options = [*(f"--{name}={form(name)}" for name in ("from", "day") if form(name))]
+    options += ["--holder", *holders] if holders else []
     if not form("release"):
-        return begin(served, "send", *own, makes=True)
+        return begin(served, "send", *options, makes=True)
     if served.is_look:
         raise WordsFault("this desk releases no day")
-    return do(served, "send", "--release", *own, makes=True)
+    return do(served, "send", "--release", *options, makes=True)

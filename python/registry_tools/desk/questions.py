@@ -31,16 +31,15 @@ from registry_tools.pages.html import Markup, link
 from registry_tools.pages.month import Month
 from registry_tools.pages.settled import REFUSED, WAITS, Settled, joined_words, outcome_in_words, record_in_words
 from registry_tools.pairs import compliance as answers
-from registry_tools.questions import changes, receipts
+from registry_tools.questions import changes, receipts, rewrites
 from registry_tools.questions.days import Days
-from registry_tools.questions.find import Find, accounts_meant, cells_of as cells_of_found, count_found
-from registry_tools.questions.find import find as found_by
+from registry_tools.questions.find import Find, accounts_meant, cells_of as cells_found, count_found, find as found_by
 from registry_tools.questions.history import history
 from registry_tools.questions.month import month
 from registry_tools.questions.unpack import row_of
 from registry_tools.second import faults, rules
 from registry_tools.cli import form
-from registry_tools.store.events import ALL, NUMBERS
+from registry_tools.store.events import ALL, NUMBERS, OF_DAYS as OF_JOURNAL
 from registry_tools.sheets.writing import Written, write_workbook
 from registry_tools.showing import Cell, as_csv, as_json
 from registry_tools.tables import Columns
@@ -53,7 +52,7 @@ WORKBOOK = "application/vnd.openxmlformats-officedocument.spreadsheetml.sheet"
 Read = Callable[..., Sequence[LogRow]]
 # Where somebody goes on behind a command.
 BEHIND = dict.fromkeys(("hand-in", "change", "take-back"), ("/next", "To the next day"))
-BEHIND["label"] = ("/names", "To the names")
+BEHIND |= {"label": ("/names", "To the names"), "settings": ("/office", "To the office")}
 # What the dates of an address are called.
 NAMES_OF_DATES = {"from": "From the day", "to": "Up to the day", "deadline": "Deadline"}
 # What files tell of an account.
@@ -77,9 +76,9 @@ def account_rows(settled: Settled, word: str) -> Iterator[tuple[Any, ...]]:
     """What is shown of the accounts that have the word as their number, kind, holder or status, or in a name."""
     for block in settled.report.book.values():
         row = block.rows[0].split(",")
-        holder, own = settled.names.holder(row[3]), settled.names.name_of(ACCOUNT, row[1])
-        if not word or word in row[1:5] or any(word.casefold() in name.casefold() for name in (holder, own)):
-            yield int(row[1]), row[2], holder, row[4], int(row[8]), int(row[9]), own, int(row[3])
+        holder, label = settled.names.holder(row[3]), settled.names.name_of(ACCOUNT, row[1])
+        if not word or word in row[1:5] or any(word.casefold() in name.casefold() for name in (holder, label)):
+            yield int(row[1]), row[2], holder, row[4], int(row[8]), int(row[9]), label, int(row[3])
 
 
 def accounts_file(served: Served, kind: str) -> Response:
@@ -104,17 +103,18 @@ def account(served: Served, number: int) -> Any:
     parts = served.reading.account(number)
     if parts is None:
         raise NotFound(f"there is no account {number}: the page Accounts has all that there are")
-    own = served.reading
+    reading = served.reading
+    rows = reading.of_days(lambda days: history(days, number)) if asked("history") else None
     return show_page(
         "account", f"Account {number}", own=parts, number=number,
-        history=[*map(row_of_history, own.of_days(lambda there: history(there, number)))] if asked("history") else None,
-        shown_row=lambda row: (*row[:3], own.outcome(str(row[0]), row[1], row[3]), *row[4:]),
+        history=None if rows is None else [*map(row_of_history, rows)],
+        shown_row=lambda row: (*row[:3], reading.outcome(str(row[0]), row[1], row[3]), *row[4:]),
     )  # fmt: skip
 
 
 def history_file(served: Served, number: int, kind: str) -> Response:
     """What became of an account with all columns of ./day history, as a file; NotFound if there is none."""
-    rows = served.reading.of_days(lambda there: history(there, number))
+    rows = served.reading.of_days(lambda days: history(days, number))
     if not rows:
         raise NotFound(f"no day has had an account {number}")
     return rows_file(served, kind, "history", tables.COLUMNS["history"], rows)
@@ -128,35 +128,35 @@ def row_of_history(row: Sequence[Any]) -> Sequence[Any]:
         what = f"{how} {words_of_row(changed)}"
     elif outcome != "done":
         outcome = WAITS if outcome == NOT_DUE else f"{REFUSED}{outcome}"
-    return day, record, what, outcome, *("" if own is None else grouped(own) for own in held)
+    return day, record, what, outcome, *("" if amount is None else grouped(amount) for amount in held)
 
 
 def names(served: Served) -> Any:
     """The page of the names of users, holders and accounts."""
-    rows = [(*own[:3], voice.time(own.at), *own[4:]) for own in served.reading.names().named.values()]
+    rows = [(*label[:3], voice.time(label.at), *label[4:]) for label in served.reading.names().named.values()]
     return show_page("names", "Names", rows=sorted(rows, key=lambda row: (row[0], int(row[1]))), kinds=KINDS)
 
 
 def names_file(served: Served, kind: str) -> Response:
     """The names there are with all columns of ./day label, as a file."""
-    there = sorted(served.reading.names().named.values(), key=lambda own: (own.kind, int(own.number)))
-    rows = [(own.kind, int(own.number), own.name, own.at or None, own.who or None, own.why or None) for own in there]
+    labels = sorted(served.reading.names().named.values(), key=lambda one: (one.kind, int(one.number)))
+    rows = [(one.kind, int(one.number), one.name, one.at or None, one.who or None, one.why or None) for one in labels]
     return rows_file(served, kind, "names", tables.COLUMNS["label"], rows)
 
 
 def compliance(served: Served) -> Any:
     """The page of compliance for a year, once a day is settled."""
-    own, settled = served.reading, served.reading.settled()
+    reading, settled = served.reading, served.reading.settled()
     if settled is None:
         return gate.said(400, gate.NO_DAY)
     year, word = number_asked("year") or answers.last_year_over(settled.head), asked("deadline")
-    office = own.office()
+    office = reading.office()
     deadline = date_of(NAMES_OF_DATES["deadline"], word) if word else office.settings.due.surrender_of(year)
-    rows = own.standings(year)
+    rows = reading.standings(year)
     return show_page(
         "compliance", f"Compliance for {year}", year=year, rows=[*map(row_of_standing, rows)], columns=COLUMNS,
         counts=standing.counts_table(rows) if rows else "", until=until_in_words(settled.head.date, deadline),
-        missing=sum(own.missing or 0 for own in rows), date=settled.head.date,
+        missing=sum(standing.missing or 0 for standing in rows), date=settled.head.date,
         shown_row=lambda row: cells_of_standing(settled, row[-1]),
     )  # fmt: skip
 
@@ -171,16 +171,17 @@ def compliance_file(served: Served, kind: str) -> Response:
     return rows_file(served, kind, "compliance", answers.COLUMNS, rows)
 
 
-def row_of_standing(own: answers.Standing) -> tuple[Any, ...]:
+def row_of_standing(row: answers.Standing) -> tuple[Any, ...]:
     """What a row is sorted by."""
-    of, share = own.account, own.surrendered - own.emissions
-    return of.number, of.holder, own.surrendered, own.emissions, share, own.figure or "", own.verdict, own
+    account, share = row.account, row.surrendered - row.emissions
+    figures = row.surrendered, row.emissions, share, row.figure or ""
+    return account.number, account.holder, *figures, row.verdict, row
 
 
-def cells_of_standing(settled: Settled, own: answers.Standing) -> Sequence[Any]:
+def cells_of_standing(settled: Settled, row: answers.Standing) -> Sequence[Any]:
     """The cells of an operator, its account with a link."""
-    of = dict(zip(standing.COLUMNS, standing.operator_cells(settled, own)))
-    return [of[name] for name in COLUMNS]
+    cells = dict(zip(standing.COLUMNS, standing.operator_cells(settled, row)))
+    return [cells[name] for name in COLUMNS]
 
 
 def month_page(served: Served) -> Any:
@@ -226,49 +227,51 @@ def number_or_name(word: str, names: Labels, kind: str = ACCOUNT) -> int | None:
 
 def find(served: Served) -> Any:
     """The page of log rows over all days."""
-    own, rows = served.reading, None
+    reading, rows = served.reading, None
     if flask.request.args and TYPED not in flask.request.args:
-        found = wanted(own.names())
-        rows = rows_of_log(own, ("found", found), functools.partial(count_found, asked=found),
+        found = wanted(reading.names())
+        rows = rows_of_log(reading, ("found", found), functools.partial(count_found, asked=found),
                            functools.partial(found_by, asked=found))  # fmt: skip
     query = flask.request.query_string.decode("ascii", "replace")
-    return show_page("find", "Find", rows=rows, query=query, shown_row=lambda row: cells_of_log(own, row))
+    return show_page("find", "Find", rows=rows, query=query, shown_row=lambda row: cells_of_log(reading, row))
 
 
-def rows_of_log(own: Reading, key: object, count: Callable[[Days], int], read: Read) -> Sequence[Any]:
+def rows_of_log(reading: Reading, key: object, count: Callable[[Days], int], read: Read) -> Sequence[Any]:
     """Log rows as a table shows them: those of its page alone, or all, if they are sorted otherwise."""
     if flask.request.args.get("sort", "-") not in ("-", ""):
-        return own.once(key, own.state_of_days(), lambda: own.of_days(lambda there: [*map(row_of_log, read(there))]))
+        return reading.once(
+            key, reading.state_of_days(), lambda: reading.of_days(lambda days: [*map(row_of_log, read(days))])
+        )
 
-    def part(there: Days) -> Part:
-        found = count(there)
+    def part(days: Days) -> Part:
+        found = count(days)
         places = places_shown(found)
-        return Part(found, places.start, [*map(row_of_log, read(there, places=places))])
+        return Part(found, places.start, [*map(row_of_log, read(days, places=places))])
 
-    return own.of_days(part)
+    return reading.of_days(part)
 
 
-def row_of_log(own: LogRow) -> tuple[str, int, str, str, str, str]:
+def row_of_log(logged: LogRow) -> tuple[str, int, str, str, str, str]:
     """A log row as texts, with its record."""
-    i = own.instruction
+    i = logged.instruction
     named = ", ".join(map(str, dict.fromkeys(rules.named(i))))
     by = ", ".join(str(user) for user in (i.proposer, i.approver) if user is not None)
-    return str(own.date), own.record, record_in_words(own), named, by, outcome_in_words(own)
+    return str(logged.date), logged.record, record_in_words(logged), named, by, outcome_in_words(logged)
 
 
-def cells_of_log(own: Reading, row: Sequence[Any]) -> Sequence[Any]:
+def cells_of_log(reading: Reading, row: Sequence[Any]) -> Sequence[Any]:
     """The cells of a log row, its day and its accounts with links, and its users with their names."""
-    day, record, said, named, by, outcome = row
-    by = ", ".join(map(own.names().user, by.split(", ")))
+    day, record, words, named, by, outcome = row
+    by = ", ".join(map(reading.names().user, by.split(", ")))
     accounts = Markup(", ".join(link(f"/accounts/{number}", number) for number in named.split(", ") if number))
-    return link(f"/days/{day}", day), record, said, accounts, by, own.outcome(day, record, outcome)
+    return link(f"/days/{day}", day), record, words, accounts, by, reading.outcome(day, record, outcome)
 
 
 def find_file(served: Served, kind: str) -> Response:
     """What was found, with all columns of ./day find, as a file."""
-    own, found = served.reading, wanted(served.reading.names())
-    logged, meant = own.of_days(lambda there: (found_by(there, found), accounts_meant(there, found)))
-    cells = [row for each in logged for row in cells_of_found(each, meant)]
+    reading, found = served.reading, wanted(served.reading.names())
+    logged, meant = reading.of_days(lambda days: (found_by(days, found), accounts_meant(days, found)))
+    cells = [row for each in logged for row in cells_found(each, meant)]
     return rows_file(served, kind, "found", tables.COLUMNS["find"], cells)
 
 
@@ -310,7 +313,7 @@ def download(content: bytes, kind: str, name: str) -> Response:
 def journal_file(served: Served, kind: str) -> Response:
     """All that was done, an event a row, as a file: what ./day unpack writes as events.csv."""
     events = served.reading.office().events.all
-    return rows_file(served, kind, "journal", OF_EVENTS, [[*map(cell_of, row_of(own))] for own in events])
+    return rows_file(served, kind, "journal", OF_EVENTS, [[*map(cell_of, row_of(event))] for event in events])
 
 
 def cell_of(value: object) -> Cell:
@@ -320,9 +323,9 @@ def cell_of(value: object) -> Cell:
 
 def days_file(served: Served, kind: str) -> Response:
     """All settled days, as a file."""
-    there = reversed([*receipts.days_told(served.reading.office())])
+    told = reversed([*receipts.days_told(served.reading.office())])
     rows: list[Sequence[Cell]] = [
-        (str(own.date), own.who, own.at, own.first, own.next, engine, is_out) for own, engine, is_out in there
+        (str(each.date), each.who, each.at, each.first, each.next, engine, is_out) for each, engine, is_out in told
     ]
     return rows_file(served, kind, "days", OF_DAYS, rows)
 
@@ -330,10 +333,10 @@ def days_file(served: Served, kind: str) -> Response:
 def month_file(served: Served, kind: str) -> Response:
     """What came of each of several days, as a file."""
     begin, end = date_asked("from") or datetime.date.min, date_asked("to") or datetime.date.max
-    days = served.reading.of_days(lambda there: month(there, begin, end))
+    found = served.reading.of_days(lambda days: month(days, begin, end))
     rows: list[Sequence[Cell]] = [
-        (str(own.date), own.done, own.refused.total(), own.waiting, *(own.allowances[each] for each in rules.KINDS))
-        for own in days
+        (str(day.date), day.done, day.refused.total(), day.waiting, *(day.allowances[kind] for kind in rules.KINDS))
+        for day in found
     ]
     return rows_file(served, kind, "month", OF_MONTH, rows)
 
@@ -342,12 +345,13 @@ def journal(served: Served) -> Any:
     """The page of what was done in the folder, and changed by hand."""
     office = served.reading.office()
     who = functools.partial(receipts.who_and_second, office)
-    events = [(voice.time(own.at), own.what, str(own.date), who(own.who, own.login, own.approved), own.why)
-              for own in reversed(office.events.of_days())]  # fmt: skip
-    by_hand = [(day, voice.time(own.part.at), who(own.part.who, own.part.login, second), own.part.name,
-                item_in_words(own)) for day, own, second in changes.items_of(office)]  # fmt: skip
-    gone = [(day, *row_of_taken(own)) for day, own in receipts.of_all(office)]
-    return show_page("journal", "Journal", events=events, by_hand=[*reversed(by_hand)], taken=[*reversed(gone)])
+    events = [(voice.time(each.at), each.what, str(each.date), who(each.who, each.login, each.approved), each.why)
+              for each in reversed(office.events.named(*OF_JOURNAL))]  # fmt: skip
+    by_hand = [(day, voice.time(item.part.at), who(item.part.who, item.part.login, second), item.part.name,
+                item_in_words(item)) for day, item, second in changes.items_of(office)]  # fmt: skip
+    gone = [(day, *row_of_taken(taken)) for day, taken in receipts.of_all(office)][::-1]
+    others = rewrites.rows(office)
+    return show_page("journal", "Journal", events=events, by_hand=by_hand[::-1], taken=gone, others=others)
 
 
 def audit(served: Served) -> Any:
@@ -358,39 +362,39 @@ def audit(served: Served) -> Any:
 def send(served: Served) -> Any:
     """The page of packages for holders."""
     office = served.reading.office()
-    dates = [own.date for own in reversed(office.events.days)]
+    dates = [event.date for event in reversed(office.events.days)]
     return show_page("send", "Send", dates=dates, is_released=office.events.is_released(), jobs=served.jobs.of("send"))
 
 
 def job(served: Served, number: str) -> Any:
     """The page of what a command does or did. Raises WordsFault if the desk has forgotten it."""
-    there = served.jobs.jobs.get(number)
-    if there is None:
+    begun = served.jobs.jobs.get(number)
+    if begun is None:
         raise WordsFault("the desk knows nothing of this any more: Today and the journal say what was done")
-    date = next((word.partition("=")[2] for word in there.words if word.startswith("--date=")), "")
-    leads = ("/", "Today") if there.is_fault() else BEHIND.get(there.command, ("/", "Today"))
-    if there.status == 0 and there.command == "close":
+    date = next((word.partition("=")[2] for word in begun.words if word.startswith("--date=")), "")
+    leads = ("/", "Today") if begun.is_fault() else BEHIND.get(begun.command, ("/", "Today"))
+    if begun.status == 0 and begun.command == "close":
         leads = (f"/days/{date}", "To the day")
-    if there.status in (0, FOUND) and there.made():
+    if begun.status in (0, FOUND) and begun.made():
         leads = (f"/jobs/{number}/packages.zip", "Download the packages")
-    if there.status == 0 and there.command in COPIES:
-        leads = (f"/office/{number}/{COPIES[there.command]}", "Download it")
-    asked_for = served.jobs.asked_for("/hand-in", there.back.rpartition("/")[2].partition("?")[0])
-    act = asked_for.first().get("act", "") if asked_for and there.status in (0, FOUND) else ""
-    ended = "at work" if there.status is None else "nothing was done" if there.is_fault() else "done"
+    if begun.status == 0 and begun.command in COPIES:
+        leads = (f"/office/{number}/{COPIES[begun.command]}", "Download it")
+    asked_for = served.jobs.asked_for("/hand-in", begun.back.rpartition("/")[2].partition("?")[0])
+    act = asked_for.first().get("act", "") if asked_for and begun.status in (0, FOUND) else ""
+    ended = "at work" if begun.status is None else "nothing was done" if begun.is_fault() else "done"
     return show_page(
-        "job", f"{voice.page_of(there.command)}: {ended}", job=there, act=act, status=there.status, leads=leads,
-        has_changed=bool(there.seen) and there.seen != flask.g.state, refresh=2 if there.status is None else None,
+        "job", f"{voice.page_of(begun.command)}: {ended}", job=begun, act=act, status=begun.status, leads=leads,
+        has_changed=bool(begun.seen) and begun.seen != flask.g.state, refresh=2 if begun.status is None else None,
     )  # fmt: skip
 
 
 def packages(served: Served, number: str) -> Response:
     """What `send` has made, as one file."""
-    there = served.jobs.jobs.get(number)
-    if there is None or there.status not in (0, FOUND) or not there.made():
+    begun = served.jobs.jobs.get(number)
+    if begun is None or begun.status not in (0, FOUND) or not begun.made():
         raise NotFound
     content = io.BytesIO()
     with zipfile.ZipFile(content, "w", zipfile.ZIP_DEFLATED) as archive:
-        for path in there.made():
+        for path in begun.made():
             archive.write(path, path.name)
     return download(content.getvalue(), "application/zip", "packages.zip")

@@ -32,11 +32,11 @@ from registry_tools.pages.rulebook import Rulebook, link_to_check
 from registry_tools.pages.settled import REFUSED, WAITS, ByHand, Settled, by_hand_before, told_by
 from registry_tools.pages.statement import Statement
 from registry_tools.pairs import compliance
-from registry_tools.pairs.compliance import Standing
+from registry_tools.pairs.compliance import Standing, Stood
 from registry_tools.questions import days, month as months
 from registry_tools.questions.days import Days
 from registry_tools.store import file, past
-from registry_tools.store.events import LABELLED, Event
+from registry_tools.store.events import LABELLED, OF_DAYS, Event
 from registry_tools.store.past import PastDay
 from registry_tools.texts.checks import checks, form_words
 from registry_tools.texts.day_text import DayText
@@ -86,23 +86,23 @@ class Reading:
     def office(self) -> Office:
         """The folder with all that was done, as this thread has it open: as it is now, or, in the block of `moment`, as
         it was at its beginning."""
-        own: Open | None = getattr(self.opened, "own", None)
-        if own is not None and own.office.store.db.in_transaction:
-            return own.office
+        held: Open | None = getattr(self.opened, "own", None)
+        if held is not None and held.office.store.db.in_transaction:
+            return held.office
         path = folder.folder_of(str(self.path))
         files = " ".join(map(stamp_of, (path / SETTINGS, path / file.NAME)))
-        if own is None or own.files != files:
+        if held is None or held.files != files:
             self.let_go()
-            own = self.opened.own = Open(files, folder.at(path))
-        with file.telling(own.office.store.path), own.office.store.reading():
-            return own.office
+            held = self.opened.own = Open(files, folder.at(path))
+        with file.telling(held.office.store.path), held.office.store.reading():
+            return held.office
 
     def let_go(self) -> None:
         """Closes the folder that this thread has open, if it has."""
-        own: Open | None = getattr(self.opened, "own", None)
+        held: Open | None = getattr(self.opened, "own", None)
         self.opened.own = None
-        if own is not None:
-            own.office.store.close()
+        if held is not None:
+            held.office.store.close()
 
     @contextlib.contextmanager
     def moment(self) -> Iterator[None]:
@@ -114,14 +114,14 @@ class Reading:
     @contextlib.contextmanager
     def anew(self) -> Iterator[Office]:
         """The folder, opened once more: for what is tried in it, and then taken back."""
-        with folder.at(folder.folder_of(str(self.path))) as office:
+        with folder.at(folder.folder_of(str(self.path)), self.office().events) as office:
             yield self.with_last(office)
 
     def with_last(self, office: Office) -> Office:
         """The folder with its last day, as that was read here before."""
-        last, own = self.office().last(), self.settled()
-        if last is not None and own is not None:
-            office.known = last.line, own.day, own.report
+        last, settled = self.office().last(), self.settled()
+        if last is not None and settled is not None:
+            office.last_read = last.line, settled.day, settled.report
         return office
 
     def state(self) -> str:
@@ -132,8 +132,7 @@ class Reading:
 
     def all_states(self) -> str:
         """What all depends on that pages show: what was done, and the settings."""
-        own = self.office()
-        return f"{own.state()} {self.opened.own.files}"
+        return f"{self.office().state()} {self.opened.own.files}"
 
     def once(self, key: object, state: str, work: Callable[[], T]) -> T:
         """What was worked out in this state of the folder: once, also if several ask at a time."""
@@ -143,32 +142,35 @@ class Reading:
             self.kept.move_to_end(key)
             while len(self.kept) > MOST_KEPT:
                 self.kept.popitem(last=False)
-            _, own, there = self.kept[key]
-        with own:
-            if not there:
+            _, lock, answers = self.kept[key]
+        with lock:
+            if not answers:
                 begun = time.monotonic()
-                there.append(work())
+                answers.append(work())
                 if time.monotonic() - begun > LONG:
                     # (what takes long is large: it is looked through for circles now, and not while others ask)
                     gc.unfreeze()
                     gc.collect()
                     gc.freeze()
-            answer: T = there[0]
+            answer: T = answers[0]
             return answer
+
+    def before(self, key: object) -> Any:
+        """What was worked out in an earlier state of the folder; None, if it is gone."""
+        kept = self.kept.get(key)
+        return kept[2][0] if kept and kept[2] else None
 
     def names(self) -> Labels:
         """The names of users and holders."""
-        office = self.office()
-        return self.once("names", self.state_of_names(), office.names)
+        return self.once("names", self.state_of_names(), self.office().names)
 
     def state_of_names(self) -> str:
         """What names depend on: the last event that gave some."""
-        return next((event.line for event in reversed(self.office().events.all) if event.what == LABELLED), "")
+        return self.office().events.last_line_of(LABELLED)
 
     def state_of_days(self) -> str:
         """What all that tells of settled days depends on: days, names, and the deadlines of the office."""
-        there = self.office().events.of_days()
-        return f"{there[-1].line if there else ''} {self.opened.own.files}"
+        return f"{self.office().events.last_line_of(*OF_DAYS)} {self.opened.own.files}"
 
     # Settled days.
 
@@ -184,29 +186,37 @@ class Reading:
         event = office.events.day_of(date) if date else office.last()
         if event is None:
             return None
-        state = f"{event.line} {self.state_of_names()}"
-        return self.once(("settled", event.date), state, functools.partial(read_settled, office, event, self.names()))
+        key, state = ("settled", event.date), f"{event.line} {self.state_of_names()}"
+        pair = self.last_pair(event) if event == office.last() else None
+        return self.once(key, state, functools.partial(read_settled, office, event, self.names(), pair))
+
+    def last_pair(self, last: Event) -> tuple[DayText, Report]:
+        """The last day and its report: by those of the day before it, if that was read as the last one."""
+        earlier = self.before("last")
+        before = PastDay(earlier[0], earlier[1], None, []) if earlier else None
+        return self.once("last", last.line, functools.partial(past.read, self.office().store.pair_of(last), before))
 
     def settled_for_holders(self) -> DeskSettled | None:
         """The last settled day in words for holders; None if there is none."""
-        own, last = self.settled(), self.office().last()
-        if own is None or last is None:
+        settled, last = self.settled(), self.office().last()
+        if settled is None or last is None:
             return None
-        made = copy.copy(own)
+        made = copy.copy(settled)
         made.rulebook = LetterWords()
         return self.once("for holders", f"{last.line} {self.state_of_names()}", lambda: made)
 
     def accounts_of_holders(self) -> dict[int, list[int]]:
         """The accounts of each holder after the last day. There has to be one."""
-        own = self.settled()
-        assert own is not None
-        return self.once("holders", self.state_of_days(), functools.partial(send.accounts_of, own.report, None))
+        settled = self.settled()
+        assert settled is not None
+        return self.once("holders", self.state_of_days(), functools.partial(send.accounts_of, settled.report, None))
 
     def waits_until(self, date: datetime.date, record: int) -> str:
         """Until when an instruction of a day waits, or waited."""
         office = self.office()
         waits = self.once(("waits", date), self.state_of_days(), lambda: waiting_behind(office, date))
-        due, last = next((own.due or own.entered for own in waits if own.record == record), None), office.last()
+        dates = (each.due or each.entered for each in waits if each.record == record)
+        due, last = next(dates, None), office.last()
         if due is None:
             return "waits: the calendar has no due day"
         return f"{'waited' if last and due <= last.date else 'waits'} until {due.day} {due:%B} {due.year}"
@@ -221,8 +231,8 @@ class Reading:
 
     def came(self, date: datetime.date) -> str:
         """What came of a day."""
-        (own,) = self.of_days(lambda asked: months.month(asked, date, date))
-        return f": {own.done} done, {own.refused.total()} refused, {own.waiting} waiting"
+        (day,) = self.of_days(lambda asked: months.month(asked, date, date))
+        return f": {day.done} done, {day.refused.total()} refused, {day.waiting} waiting"
 
     def by_hand(self, date: datetime.date) -> ByHand:
         """What people changed before a settled day."""
@@ -230,28 +240,26 @@ class Reading:
         filed = [event for event in office.events.days if event.date <= date][-2:]
 
         def work() -> ByHand:
-            *before, own = past.read_all([office.store.pair_of(event) for event in filed])
+            *before, last_day = past.read_all([office.store.pair_of(event) for event in filed])
             pair = (before[0].day, before[0].report) if before else None
             items = intake.for_a_day(office.store, filed[-1]).items(intake.CHANGES, intake.EDITS)
             told = [[voice.time(at), *more] for at, *more in told_by(items)]
-            return by_hand_before(pair, own.day, told)
+            return by_hand_before(pair, last_day.day, told)
 
         return self.once(("by hand", date), filed[-1].line, work)
 
     def standings(self, year: int) -> list[Standing]:
         """How operators stand for a year, after the last day, those first that lack something. There has to be one."""
-        own = self.settled()
-        assert own is not None
-        told = compliance.standings(own.day, own.report, year)
-        return self.once(("standings", year), self.state_of_days(), lambda: sorted(told, key=standing.order))
-
-    def standings_of_last(self, _day: DayText, _report: Report, year: int) -> list[Standing]:
-        """The same, for what asks by the last day and its report."""
-        return self.standings(year)
+        settled, last = self.settled(), self.office().last()
+        assert settled is not None and last is not None
+        key, day, report = ("standings", year), settled.day, settled.report
+        told = compliance.standings(day, report, year, self.before(key))
+        stood: Stood = self.once(key, last.line, lambda: Stood(day, report, sorted(told, key=standing.order)))
+        return stood.standings
 
     def held_over(self, count: int) -> list[tuple[datetime.date, dict[str, int]]]:
         """What all accounts held after each of so many last days."""
-        return self.once("held", self.state_of_days(), lambda: self.of_days(lambda own: months.held_over(own, count)))
+        return self.once("held", self.state_of_days(), lambda: self.of_days(lambda days: months.held_over(days, count)))
 
     def account(self, number: int) -> Markup | None:
         """All that stands on the page of an account; None, if there is no such account."""
@@ -259,18 +267,18 @@ class Reading:
         if settled is None or number not in settled.report.book:
             return None
         told = self.of_days(lambda asked: indexed.days_of(asked, number, DAYS_OF_STATEMENT))
-        own = Statement(settled, number, told, self.waits_until)
-        return joined(*own_parts(settled, settled.report.book[number].account(), own))
+        statement = Statement(settled, number, told, self.waits_until)
+        return joined(*own_parts(settled, settled.report.book[number].account(), statement))
 
     def month(self, asked: Month) -> tuple[str, str, list[Markup]]:
         """Several days together, as the page of ./day month has them."""
         office, last = self.office(), self.settled()
 
-        def parts(there: Days) -> tuple[str, str, list[Markup]]:
+        def parts(days: Days) -> tuple[str, str, list[Markup]]:
             if last is not None:
                 # (the last day is read already)
-                there.read = {last.head.date: PastDay(last.day, last.report, None, [])}
-            return month.parts_of(there, office, self.names(), asked, MOST_ROWS, link, self.standings_of_last)
+                days.read = {last.head.date: PastDay(last.day, last.report, None, [])}
+            return month.parts_of(days, office, self.names(), asked, MOST_ROWS, link, lambda *a: self.standings(a[-1]))
 
         return self.once(("month", asked), self.state_of_days(), lambda: self.of_days(parts))
 
@@ -332,18 +340,18 @@ class Reading:
         return self.of_next("closing", next_day.date, work), close.left_for_later(self.handed_in(), next_day.date)
 
 
-def read_settled(office: Office, event: Event, names: Labels) -> DeskSettled:
-    """A settled day with its report and the names."""
-    own = next(past.read_all([office.store.pair_of(event)]))
-    earlier = send.waiting_of(office.store.kept(event, "waiting"), own)
-    return DeskSettled(own.day, own.report, DeskBook("/"), Frame([]), own.report.book.keys(), earlier, names)
+def read_settled(office: Office, event: Event, names: Labels, pair: tuple[DayText, Report] | None) -> DeskSettled:
+    """A settled day with its report and the names; of one that was read before, its pair."""
+    day = PastDay(*(pair or past.read(office.store.pair_of(event))), None, [])
+    earlier = send.waiting_of(office.store.kept(event, "waiting"), day)
+    return DeskSettled(day.day, day.report, DeskBook("/"), Frame([]), day.report.book.keys(), earlier, names)
 
 
 def stamp_of(path: Path) -> str:
     """Which file this is; of the settings, which are read once, also how they were when they were read."""
     try:
-        own = os.stat(path)
+        state = os.stat(path)
     except OSError:
         return "-"
-    changed = "" if path.name == file.NAME else f" {own.st_size} {own.st_mtime_ns}"
-    return f"{own.st_dev} {own.st_ino}{changed}"
+    changed = "" if path.name == file.NAME else f" {state.st_size} {state.st_mtime_ns}"
+    return f"{state.st_dev} {state.st_ino}{changed}"

@@ -30,11 +30,11 @@ BETWEEN = str.maketrans("", "", ",.' \u00a0\u202f")
 
 def page(served: Served) -> Any:
     """The page of what a word finds."""
-    own, word = served.reading, asked("q")
-    found = [*whats_of(own, word)] if word else []
-    rows = log_rows_named(own, word) if word else []
+    reading, word = served.reading, asked("q")
+    found = [*whats_of(reading, word)] if word else []
+    rows = log_rows_named(reading, word) if word else []
     return show_page(
-        "search", "Search", q=word, found=found, rows=rows, shown_row=lambda row: cells_of_log(own, row),
+        "search", "Search", q=word, found=found, rows=rows, shown_row=lambda row: cells_of_log(reading, row),
     )  # fmt: skip
 
 
@@ -46,34 +46,34 @@ def number_of(word: str) -> int | None:
 
 def checks_named(word: str) -> list[Check]:
     """The checks whose names have the word in them, in letters of either size."""
-    return [own for own in checks().values() if len(word) > 2 and word.casefold() in own.name.casefold()]
+    return [check for check in checks().values() if len(word) > 2 and word.casefold() in check.name.casefold()]
 
 
-def whats_of(own: Reading, word: str) -> Iterator[Markup]:
+def whats_of(reading: Reading, word: str) -> Iterator[Markup]:
     """What has this number, or this name, each with a link."""
-    settled, number = own.settled(), number_of(word)
+    settled, number = reading.settled(), number_of(word)
     if settled is not None and number is not None:
-        there = [*questions.account_rows(settled, str(number))]
+        rows = [*questions.account_rows(settled, str(number))]
         if number in settled.report.book:
             yield joined_words(link(f"/accounts/{number}", f"Account {number}"))
-        held = sum(row[-1] == number for row in there)
+        held = sum(row[-1] == number for row in rows)
         if held:
-            holder = link(f"/accounts?q={number}", f"Holder {own.names().holder(number)}")
+            holder = link(f"/accounts?q={number}", f"Holder {reading.names().holder(number)}")
             yield joined_words(holder, counted(held, "account", "accounts"))
-        user = own.names().user(number)
+        user = reading.names().user(number)
         yield joined_words(link(f"/find?user={number}", f"What user {user} proposed and approved"))
-    labels = [it for it in own.names().named.values() if number is None and word.casefold() in it.name.casefold()]
+    labels = [it for it in reading.names().named.values() if number is None and word.casefold() in it.name.casefold()]
     ways = {ACCOUNT: "/accounts/{}", HOLDER: "/accounts?q={}"}
     for it in labels[:MOST_NAMES]:
         way = ways.get(it.kind, "/find?user={}").format(it.number)
-        yield joined_words(link(way, f"{it.kind.capitalize()} {own.names().words(it.kind, it.number)}"))
+        yield joined_words(link(way, f"{it.kind.capitalize()} {reading.names().words(it.kind, it.number)}"))
     if len(labels) > MOST_NAMES:
         yield joined_words(link("/names", f"and {len(labels) - MOST_NAMES:,} more names"))
     for check in checks_named(word):
         yield joined_words(link_to_check(check.code, f"Check {check.name}", "/"), check.meaning)
 
 
-def log_rows_named(own: Reading, word: str) -> Sequence[Any]:
+def log_rows_named(reading: Reading, word: str) -> Sequence[Any]:
     """The log rows of a record, or of an amount, or those that a check refused."""
     codes = ", ".join(str(check.code) for check in checks_named(word))
     number = number_of(word)
@@ -83,7 +83,7 @@ def log_rows_named(own: Reading, word: str) -> Sequence[Any]:
     parts += [f"SELECT record FROM log WHERE code IN ({codes})"] if codes else []
     where, values = [f"i.record IN ({' UNION '.join(parts)})"], {"amount": number}
 
-    def read(there: Days, places: range | None = None) -> list[LogRow]:
-        return [*logged(there, where, values, places)]
+    def read(days: Days, places: range | None = None) -> list[LogRow]:
+        return [*logged(days, where, values, places)]
 
-    return questions.rows_of_log(own, ("searched", word), lambda there: count_logged(there, where, values), read)
+    return questions.rows_of_log(reading, ("searched", word), lambda days: count_logged(days, where, values), read)

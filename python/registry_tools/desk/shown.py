@@ -61,7 +61,8 @@ def address(**more: object) -> str:
 def address_of(path: str, args: dict[str, object]) -> str:
     """The address of a page with these words in it; with None, without this word."""
     # (not by url_for: words of the address such as _external would be its own)
-    query = urllib.parse.urlencode({key: own for key, own in args.items() if own is not None}, True, errors="replace")
+    given = {key: value for key, value in args.items() if value is not None}
+    query = urllib.parse.urlencode(given, True, errors="replace")
     return urllib.parse.quote(path) + (f"?{query}" if query else "")
 
 
@@ -78,21 +79,21 @@ def back_of_form() -> str:
     if page == "/approve" and form("command") in ASKED_AGAIN:
         # (what is not so any more is asked for once more)
         return address_of(f"/{form('command')}", {ASKED_AGAIN[form("command")]: form("day")})
-    said = flask.request.form.to_dict(flat=False)
-    typed = {name: own for name, own in said.items() if name not in OF_PAGE | OF_LOOKS and any(own)}
-    own = {name: [word[:LONGEST_FIELD] for word in words] for name, words in typed.items()}
-    return address_of(page, {**own})
+    fields = flask.request.form.to_dict(flat=False)
+    typed = {name: values for name, values in fields.items() if name not in OF_PAGE | OF_LOOKS and any(values)}
+    kept = {name: [word[:LONGEST_FIELD] for word in words] for name, words in typed.items()}
+    return address_of(page, {**kept})
 
 
-def outcome(own: trial.Looked) -> object:
+def outcome(tried: trial.Looked) -> object:
     """The outcome of an instruction; strong, if it is refused, and with what was found."""
-    return Markup(f"{tag('strong', own.said())} {markup(own.why)}") if own.is_refused else own.said()
+    return Markup(f"{tag('strong', tried.said())} {markup(tried.why)}") if tried.is_refused else tried.said()
 
 
-def row_of_taken(own: receipts.TakenBack) -> tuple[object, ...]:
+def row_of_taken(taken: receipts.TakenBack) -> tuple[object, ...]:
     """What was taken back: its place, what it was or, behind the close, its file, who did it, when and why."""
-    what = item_in_words(own.item) if own.item else f"a row of {own.part.name}" if own.part else ""
-    return own.taken.place, what, own.taken.who, voice.time(own.taken.at), own.taken.why
+    what = item_in_words(taken.item) if taken.item else f"a row of {taken.part.name}" if taken.part else ""
+    return taken.taken.place, what, taken.taken.who, voice.time(taken.taken.at), taken.taken.why
 
 
 class Part(Sequence[Any]):
@@ -143,15 +144,15 @@ def sorted_table(
         rows = sorted(rows, key=lambda row: sort_key(row[place]), reverse=word.startswith("-"))
     number, last = page_of_table(len(rows), name)
     part = [["" if cell is None else cell for cell in show(row)] for row in rows[(number - 1) * ROWS : number * ROWS]]
-    ways = {own: address(**{sort: f"-{own}" if word == own else own, page: None}) for own in columns}
-    heads = [link(ways[own], own) if own else own for own in columns] if len(rows) > 1 else None
+    ways = {name: address(**{sort: f"-{name}" if word == name else name, page: None}) for name in columns}
+    heads = [link(ways[name], name) if name else name for name in columns] if len(rows) > 1 else None
     counted = f"{caption} ({len(rows):,})" if last > 1 else caption
-    own = Table(columns, right, heads=heads).of(counted, part)
-    return joined(own, pages_of(page, number, last)) if last > 1 else own
+    table = Table(columns, right, heads=heads).of(counted, part)
+    return joined(table, pages_of(page, number, last)) if last > 1 else table
 
 
 def pages_of(page: str, number: int, last: int) -> Markup:
     """Links to the other pages of a table: the first, the last, and those near."""
-    own: Iterable[int] = (place for place in range(1, last + 1) if place in (1, last) or abs(place - number) <= NEAR)
-    ways = (tag("strong", place) if place == number else link(address(**{page: place}), place) for place in own)
+    places: Iterable[int] = (place for place in range(1, last + 1) if place in (1, last) or abs(place - number) <= NEAR)
+    ways = (tag("strong", place) if place == number else link(address(**{page: place}), place) for place in places)
     return tag("nav", tag("ol", *(tag("li", way) for way in ways)), aria_label="Pages of the table", class_="parts")

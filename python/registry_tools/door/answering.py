@@ -59,7 +59,7 @@ def begin(words: list[str]) -> int:
     """Carries out what somebody asks by the connection of this descriptor, for this folder and login, with this place
     for what is made. Answers the exit status."""
     number, folder, login, aside, is_look = words
-    own, job = socket.socket(fileno=int(number)), Job(folder, login, aside, is_look == "look")
+    connection, job = socket.socket(fileno=int(number)), Job(folder, login, aside, is_look == "look")
     log.begin()
     # (whoever starts a desk behind & has its processes pass over Ctrl-C)
     for each in steps.SIGNALS:
@@ -67,14 +67,14 @@ def begin(words: list[str]) -> int:
     status = WORDS
     try:
         signal.alarm(MOST_SECONDS)
-        frames.send(own, frames.GO)
-        stream = own.makefile("rb")
+        frames.send(connection, frames.GO)
+        stream = connection.makefile("rb")
         asked = read(stream)
         signal.alarm(0)
-        status = carry_out(own, stream, asked, job)
+        status = carry_out(connection, stream, asked, job)
     except (Broken, WordsFault) as fault:
         log.refused(f"the login {login}", "a command", "", WORDS, str(fault))
-        frames.refuse(own, str(fault))
+        frames.refuse(connection, str(fault))
     finally:
         shutil.rmtree(aside, ignore_errors=True)
     return status
@@ -120,8 +120,8 @@ def content_of(stream: BinaryIO, path: str, most: int) -> bytes:
 class There:
     """Whoever gives the command: all that goes to them, and whether they are there still."""
 
-    def __init__(self, own: socket.socket, stream: BinaryIO, aside: Path) -> None:
-        self.own, self.stream, self.aside = own, stream, aside
+    def __init__(self, connection: socket.socket, stream: BinaryIO, aside: Path) -> None:
+        self.connection, self.stream, self.aside = connection, stream, aside
         self.queue: queue.SimpleQueue[Any] = queue.SimpleQueue()
         self.written, self.is_over, self.is_gone = threading.Event(), False, False
         # (a signal goes to the thread that does the work)
@@ -138,7 +138,7 @@ class There:
             try:
                 if isinstance(kind, Path):
                     kind = frames.frame(frames.CONTENT, kind.read_bytes())
-                self.own.sendall(kind)
+                self.connection.sendall(kind)
             except OSError:
                 self.end_early()
                 return
@@ -178,11 +178,11 @@ class There:
     def write_folder(self, path: str, made: Path) -> None:
         """Has a folder written there, and waits until it is."""
         self.send(frames.FOLDER, frames.said(str(path)))
-        for own in sorted(made.rglob("*")):
-            name = frames.said(str(own.relative_to(made)))
-            self.send(frames.ROOM if own.is_dir() else frames.INSIDE, name)
-            if not own.is_dir():
-                self.queue.put(own)
+        for inside in sorted(made.rglob("*")):
+            name = frames.said(str(inside.relative_to(made)))
+            self.send(frames.ROOM if inside.is_dir() else frames.INSIDE, name)
+            if not inside.is_dir():
+                self.queue.put(inside)
         self.written.clear()
         self.send(frames.ALL)
         self.written.wait()
@@ -201,9 +201,9 @@ class There:
 class Stream(io.RawIOBase):
     """A standard stream of a command, which goes to whoever gives it."""
 
-    def __init__(self, there: There, kind: bytes, is_terminal: bool = False) -> None:
+    def __init__(self, caller: There, kind: bytes, is_terminal: bool = False) -> None:
         super().__init__()
-        self.there, self.kind, self.is_terminal = there, kind, is_terminal
+        self.caller, self.kind, self.is_terminal = caller, kind, is_terminal
 
     def writable(self) -> bool:
         """That it may be written."""
@@ -219,25 +219,25 @@ class Stream(io.RawIOBase):
 
     def write(self, content: Any) -> int:
         """Sends what is written. Raises OSError."""
-        own = bytes(content)
-        self.there.send(self.kind, own)
-        return len(own)
+        part = bytes(content)
+        self.caller.send(self.kind, part)
+        return len(part)
 
 
-def stream_of(there: There, kind: bytes, is_terminal: bool = False) -> TextIO:
+def stream_of(caller: There, kind: bytes, is_terminal: bool = False) -> TextIO:
     """A standard stream of text."""
-    raw = cast(BinaryIO, Stream(there, kind, is_terminal))
+    raw = cast(BinaryIO, Stream(caller, kind, is_terminal))
     return io.TextIOWrapper(raw, "utf-8", "surrogateescape", "\n", write_through=True)
 
 
-def carry_out(own: socket.socket, stream: BinaryIO, asked: Asked, job: Job) -> int:
+def carry_out(connection: socket.socket, stream: BinaryIO, asked: Asked, job: Job) -> int:
     """Carries a command out, and answers its status."""
     # (whoever waits for the end of a command says nothing)
-    own.setsockopt(socket.SOL_SOCKET, socket.SO_RCVTIMEO, struct.pack("ll", 0, 0))
-    there = There(own, stream, Path(job.aside))
+    connection.setsockopt(socket.SOL_SOCKET, socket.SO_RCVTIMEO, struct.pack("ll", 0, 0))
+    caller = There(connection, stream, Path(job.aside))
     streams.names["./day"] = asked.called
-    sys.stdout = stream_of(there, frames.OUT, asked.is_terminal)
-    sys.stderr = cast(TextIO, streams.Quiet(stream_of(there, frames.ERRORS)))
+    sys.stdout = stream_of(caller, frames.OUT, asked.is_terminal)
+    sys.stderr = cast(TextIO, streams.Quiet(stream_of(caller, frames.ERRORS)))
     progress.stream, progress.is_shown = sys.stderr, asked.shows_progress
     opening.guard(job.aside)
     elsewhere.bounds.is_for_others = True
@@ -245,12 +245,12 @@ def carry_out(own: socket.socket, stream: BinaryIO, asked: Asked, job: Job) -> i
     name, *words = asked.words
     log.begun(name, job.login, f"the login {job.login}, by words")
     status = INTERRUPTED
-    giver = placing.Giver(job.folder, job.login, asked.files, there)
+    giver = placing.Giver(job.folder, job.login, asked.files, caller)
     with contextlib.suppress(KeyboardInterrupt):
         status = main.carry_out(name, functools.partial(placing.run, name, words, giver))
-    there.is_over = True
+    caller.is_over = True
     log.told(f"./day {name} of {job.login} ended with status {status}")
-    there.end(status)
+    caller.end(status)
     return status
 
 

@@ -37,26 +37,26 @@ class Coming:
         self.begun: dict[str, list[Started]] = defaultdict(list)
         self.open: dict[str, list[socket.socket]] = defaultdict(list)
 
-    def why_not(self, own: socket.socket) -> str:
+    def why_not(self, connection: socket.socket) -> str:
         """Why nothing is read of a connection of a browser or of a link; nothing, if it may come."""
-        why = self.door.why_not(own)
+        why = self.door.why_not(connection)
         if why:
             return why
-        login = peer_at(own).login
-        there = [each for each in self.open[login] if each.fileno() != CLOSED]
+        login = peer_at(connection).login
+        others = [each for each in self.open[login] if each.fileno() != CLOSED]
         most = MOST_OF_PROXY if self.is_proxy(login) else MOST_OPEN
-        if len(there) >= most:
+        if len(others) >= most:
             log.refused(f"the login {login}", "all", "", 403, f"{most} connections of it are open")
             return f"{most} connections of this login are open: wait until one ends"
-        self.open[login] = [*there, own]
+        self.open[login] = [*others, connection]
         return ""
 
-    def why_no_command(self, own: socket.socket) -> str:
+    def why_no_command(self, connection: socket.socket) -> str:
         """Why somebody may give no command now; nothing, if they may."""
-        why = self.door.why_not(own)
+        why = self.door.why_not(connection)
         if why:
             return why
-        login = peer_at(own).login
+        login = peer_at(connection).login
         why = BY_PROXY if self.is_proxy(login) else OF_HOLDER if self.is_tied(login) else ""
         if not why and len(self.at_work(login)) >= MOST_AT_ONCE:
             why = TOO_MANY
@@ -81,25 +81,25 @@ class Coming:
         self.begun[login] = [process for process in self.begun[login] if process.poll() is None]
         return self.begun[login]
 
-    def begin(self, own: socket.socket) -> None:
+    def begin(self, connection: socket.socket) -> None:
         """Has a process carry out what comes by a connection."""
-        login = peer_at(own).login
+        login = peer_at(connection).login
         aside = tempfile.mkdtemp(prefix="job-", dir=self.private)
-        words = [str(own.fileno()), str(self.folder), login, aside, "look" if self.is_look else "all"]
+        words = [str(connection.fileno()), str(self.folder), login, aside, "look" if self.is_look else "all"]
         # (its errors go to the log of the desk; and who it is stands in its words alone)
         process = subprocess.Popen(
             [*isolated.answer_by(), *words], cwd=aside, stdin=subprocess.DEVNULL, stdout=subprocess.DEVNULL,
-            pass_fds=[own.fileno()], start_new_session=True, env={**os.environ, "LOGNAME": login},
+            pass_fds=[connection.fileno()], start_new_session=True, env={**os.environ, "LOGNAME": login},
         )  # fmt: skip
         self.at_work(login).append(process)
 
     def end(self) -> None:
         """Ends what is at work, and waits: a command that is told to end leaves the folder as it was, or as it will
         be."""
-        there = [process for own in self.begun.values() for process in own if process.poll() is None]
-        for process in there:
+        running = [process for processes in self.begun.values() for process in processes if process.poll() is None]
+        for process in running:
             with contextlib.suppress(ProcessLookupError):
                 os.killpg(process.pid, signal.SIGTERM)
-        for process in there:
+        for process in running:
             with contextlib.suppress(subprocess.TimeoutExpired):
                 process.wait(MOST_SECONDS)

@@ -74,9 +74,9 @@ def peer_of(environ: Mapping[str, Any]) -> Peer:
     return peer_at(environ["gunicorn.socket"])
 
 
-def peer_at(own: socket.socket) -> Peer:
+def peer_at(connection: socket.socket) -> Peer:
     """Who is at the other end of a connection."""
-    return Peer(people.login_of(frames.user_at(own)), str(own.getsockname()).endswith(LINKS))
+    return Peer(people.login_of(frames.user_at(connection)), str(connection.getsockname()).endswith(LINKS))
 
 
 class Links:
@@ -84,38 +84,38 @@ class Links:
 
     def __init__(self, kept: Kept | None = None) -> None:
         self.lock, self.kept = threading.Lock(), kept
-        self.there = {name: Link(*own) for name, own in kept.links.items()} if kept else {}
+        self.links = {name: Link(*link) for name, link in kept.links.items()} if kept else {}
 
     def make(self, login: str) -> tuple[str, float]:
         """A new link for a login: its key, and until when it counts. Of too many, the first one ends."""
         key, until = secrets.token_urlsafe(16), time.time() + MOST_SECONDS
         with self.lock:
-            own = [name for name, link in self.there.items() if link.login == login]
-            for name in own[: max(len(own) - MOST_LINKS + 1, 0)]:
-                del self.there[name]
-            self.there[link_name(key)] = Link(login, until)
+            names = [name for name, link in self.links.items() if link.login == login]
+            for name in names[: max(len(names) - MOST_LINKS + 1, 0)]:
+                del self.links[name]
+            self.links[link_name(key)] = Link(login, until)
             self.keep()
         return key, until
 
     def keep(self) -> None:
         """Keeps those that count still, for the time behind a restart."""
         if self.kept is not None:
-            there = {name: (own.login, own.until) for name, own in self.there.items() if time.time() < own.until}
-            self.kept.links = there
+            links = {name: (link.login, link.until) for name, link in self.links.items() if time.time() < link.until}
+            self.kept.links = links
             self.kept.write()
 
     def end(self, login: str) -> int:
         """Ends all links of a login, and answers how many there were."""
         with self.lock:
-            own = [name for name, link in self.there.items() if link.login == login]
-            for name in own:
-                del self.there[name]
+            names = [name for name, link in self.links.items() if link.login == login]
+            for name in names:
+                del self.links[name]
             self.keep()
-        return len(own)
+        return len(names)
 
     def counts(self, name: object, login: str) -> bool:
         """Whether a link counts for a login now."""
-        link = self.there.get(str(name))
+        link = self.links.get(str(name))
         return link is not None and link.login == login and time.time() < link.until
 
 
@@ -134,9 +134,9 @@ class Door:
         """The people whom office.ini names. Raises FileFault."""
         return settings.read(self.folder / SETTINGS).people
 
-    def why_not(self, own: socket.socket) -> str:
+    def why_not(self, connection: socket.socket) -> str:
         """Why nothing is read of a connection; nothing, if it is of a login that office.ini names."""
-        peer = peer_at(own)
+        peer = peer_at(connection)
         with contextlib.suppress(FileFault, OSError):
             if peer.login in self.people().named:
                 return ""
@@ -145,16 +145,16 @@ class Door:
 
     def caller(self, peer: Peer, head: Head) -> Caller | Refusal:
         """Who asks, or why nobody does who may."""
-        known = self.people()
-        if peer.login not in known.named:
+        people_here = self.people()
+        if peer.login not in people_here.named:
             return Refusal(403, NOT_NAMED, f"{peer.login} is no login that {SETTINGS} names")
-        if not known.may_speak(peer.login):
+        if not people_here.may_speak(peer.login):
             return Caller(peer.login, peer.login, False)
         name = heads.plain_name(head.of(self.header))
         if not name:
             told = "The proxy before this desk has to say who you are, and it does not."
             return Refusal(403, told, f"the proxy {peer.login} names nobody")
-        if name not in known.named or SPEAKS_FOR in name:
+        if name not in people_here.named or SPEAKS_FOR in name:
             return Refusal(403, NOT_NAMED, f"{name}, whom {peer.login} names, is no login that {SETTINGS} names")
         return Caller(f"{peer.login}{SPEAKS_FOR}{name}", name, True)
 
@@ -185,6 +185,6 @@ def must_be_left(path: str) -> None:
     with contextlib.suppress(FileNotFoundError):
         if not stat.S_ISSOCK(os.lstat(path).st_mode):
             raise WordsFault(f"--socket {path}: something else than a socket lies there")
-        with socket.socket(socket.AF_UNIX) as own, contextlib.suppress(ConnectionRefusedError):
-            own.connect(path)
+        with socket.socket(socket.AF_UNIX) as connection, contextlib.suppress(ConnectionRefusedError):
+            connection.connect(path)
             raise WordsFault(f"--socket {path}: another desk answers there")

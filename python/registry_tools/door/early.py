@@ -28,8 +28,8 @@ def watch(server: Any, app: flask.Flask, host: str, proxy: heads.Proxy | None, m
             log.refused(head.peer, head.method, head.path, found.code, f"{found.why}; its body was not read")
         return found
 
-    own = type("EarlyParser", (EarlyParser,), {"refusal_of": staticmethod(refusal_of)})
-    server.channel_class = type("EarlyChannel", (channel.HTTPChannel,), {"parser_class": own})
+    parser = type("EarlyParser", (EarlyParser,), {"refusal_of": staticmethod(refusal_of)})
+    server.channel_class = type("EarlyChannel", (channel.HTTPChannel,), {"parser_class": parser})
 
 
 class EarlyParser(parser.HTTPRequestParser):

@@ -93,8 +93,8 @@ def refusal_of_site(host: str, head: Head) -> Refusal | None:
     site, origin = head.of("Sec-Fetch-Site"), head.of("Origin")
     # (a browser says nothing of where a form stands that it sends without a referrer, and a proxy has another address)
     is_own = site in OWN_SITES if site else True
-    own = "", "null", f"http://{host}", f"https://{host}"
-    if head.method == "POST" and not (is_own and (site or origin in own)):
+    sites = "", "null", f"http://{host}", f"https://{host}"
+    if head.method == "POST" and not (is_own and (site or origin in sites)):
         return Refusal(403, "The form is of another page than one of this desk.", "a form of another page")
     return None
 
@@ -139,8 +139,8 @@ def read_secret(path: str) -> str:
     except OSError as error:
         raise WordsFault(f"--proxy-secret {path}: it cannot be read: {error.strerror}") from None
     try:
-        own = os.fstat(file)
-        if not stat.S_ISREG(own.st_mode) or own.st_mode & 0o077 or own.st_uid not in (os.geteuid(), 0):
+        status = os.fstat(file)
+        if not stat.S_ISREG(status.st_mode) or status.st_mode & 0o077 or status.st_uid not in (os.geteuid(), 0):
             expected = "expected a file of the mode 0600 of this login"
             raise WordsFault(f"--proxy-secret {path}: others may read it; {expected}")
         secret = os.read(file, 1 << 12).decode("utf-8", "replace").strip()

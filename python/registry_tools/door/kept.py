@@ -37,12 +37,12 @@ class Kept:
         with contextlib.suppress(OSError, ValueError, TypeError, KeyError, AttributeError):
             file = os.open(self.path, os.O_RDONLY | os.O_NOFOLLOW | os.O_NONBLOCK)
             with open(file, "rb") as stream:
-                own = os.fstat(file)
-                if not stat.S_ISREG(own.st_mode) or own.st_mode & 0o077 or own.st_uid != os.geteuid():
+                status = os.fstat(file)
+                if not stat.S_ISREG(status.st_mode) or status.st_mode & 0o077 or status.st_uid != os.geteuid():
                     return None
-                said = json.loads(stream.read(MOST_BYTES))
-            key = bytes.fromhex(said["key"])
-            links = {str(name): (str(login), float(until)) for name, (login, until) in said["links"].items()}
+                values = json.loads(stream.read(MOST_BYTES))
+            key = bytes.fromhex(values["key"])
+            links = {str(name): (str(login), float(until)) for name, (login, until) in values["links"].items()}
             return (key, links) if len(key) == BYTES else None
         return None
 

@@ -17,9 +17,9 @@ def begin() -> None:
     handler = logging.StreamHandler(sys.stderr)
     handler.setFormatter(logging.Formatter(FORM, TIMES))
     # (what waitress has to say stands in the same log, without how many requests wait for a thread)
-    for own in (logger, logging.getLogger("waitress")):
-        own.addHandler(handler)
-        own.propagate = False
+    for log in (logger, logging.getLogger("waitress")):
+        log.addHandler(handler)
+        log.propagate = False
     logger.setLevel(logging.INFO)
     logging.getLogger("waitress.queue").setLevel(logging.ERROR)
 

@@ -48,16 +48,16 @@ class Worker(ThreadWorker):
             super().accept(server, Listener(listener, coming.why_not, refuse_browser, self.refused))
             return
         try:
-            own, _ = Listener(listener, coming.why_no_command, frames.refuse, self.refused).accept()
+            connection, _ = Listener(listener, coming.why_no_command, frames.refuse, self.refused).accept()
         except OSError:
             # (they may not, or are gone)
             return
-        with own:
+        with connection:
             try:
-                coming.begin(own)
+                coming.begin(connection)
             except OSError as error:
                 log.told(f"a command cannot be begun: {error.strerror}")
-                frames.refuse(own, f"the desk cannot begin it now: {error.strerror}")
+                frames.refuse(connection, f"the desk cannot begin it now: {error.strerror}")
 
     def handle_request(self, req: Any, conn: Any) -> Any:
         """Answers a request. A header with `_` in its name is refused: it would pass for the one with `-`, which a
@@ -80,26 +80,26 @@ class Listener:
 
     def accept(self) -> tuple[socket.socket, Any]:
         """The next connection. Raises OSError if it is of somebody who may not come."""
-        own, client = self.listener.accept()
-        why = self.why_not(own)
+        connection, client = self.listener.accept()
+        why = self.why_not(connection)
         if why:
-            self.refuse(own, why)
+            self.refuse(connection, why)
             raise OSError(errno.EAGAIN, os.strerror(errno.EAGAIN))
         for option in (socket.SO_RCVTIMEO, socket.SO_SNDTIMEO):
-            own.setsockopt(socket.SOL_SOCKET, option, struct.pack("ll", SILENT, 0))
-        return own, client
+            connection.setsockopt(socket.SOL_SOCKET, option, struct.pack("ll", SILENT, 0))
+        return connection, client
 
-    def refuse(self, own: socket.socket, why: str) -> None:
+    def refuse(self, connection: socket.socket, why: str) -> None:
         """Tells somebody why not. (Closed at once, the connection would break while they still ask.)"""
-        self.refused.append(own)
+        self.refused.append(connection)
         if len(self.refused) > MOST_REFUSED:
             self.refused.popleft().close()
-        self.tell(own, why)
+        self.tell(connection, why)
 
 
-def refuse_browser(own: socket.socket, why: str) -> None:
+def refuse_browser(connection: socket.socket, why: str) -> None:
     """Tells a browser, or whoever asks for a link, why nothing is read of it."""
-    frames.send_at_once(own, ANSWER.format(len(why.encode()) + 1, f"{why}\n").encode())
+    frames.send_at_once(connection, ANSWER.format(len(why.encode()) + 1, f"{why}\n").encode())
 
 
 def serve(app: Any, coming: Coming, path: str, threads: int, end: Callable[[], None]) -> None:

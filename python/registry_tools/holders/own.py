@@ -44,15 +44,15 @@ class OwnStatement(LetterStatement):
         if own_row.is_whole:
             super().take(date, own_row)
 
-    def table(self, own: Table, caption: object, rows: Iterable[Cells], foot: Sequence[Cells] = ()) -> Markup:
+    def table(self, whole: Table, caption: object, rows: Iterable[Cells], foot: Sequence[Cells] = ()) -> Markup:
         """A table without records."""
-        kept = [place for place, name in enumerate(own.columns) if name not in COUNTING]
+        kept = [place for place, name in enumerate(whole.columns) if name not in COUNTING]
 
         def cut(row: Cells) -> Cells:
             return [IN_WORDS.sub("", cell) if type(cell) is str else cell for cell in (row[place] for place in kept)]
 
-        columns = [own.columns[place] for place in kept]
-        right = [name for name in columns if name in own.right]
+        columns = [whole.columns[place] for place in kept]
+        right = [name for name in columns if name in whole.right]
         return Table(columns, right).of(caption, map(cut, rows), [*map(cut, foot)])
 
 
@@ -76,8 +76,8 @@ class Own:
     def __init__(self, settled: Settled, holder: int, of_holders: Mapping[int, Sequence[int]]) -> None:
         """`of_holders` has the accounts of each holder."""
         self.settled, self.holder = settled, holder
-        there = ((number, settled.report.book[number]) for number in of_holders.get(holder, ()))
-        self.book = {number: block for number, block in there if block.holder == holder}
+        blocks = ((number, settled.report.book[number]) for number in of_holders.get(holder, ()))
+        self.book = {number: block for number, block in blocks if block.holder == holder}
         self.report = replace(settled.report, book=self.book, log=[])
 
     def account(self, number: int) -> rules.Account:
@@ -101,18 +101,18 @@ class Own:
 
     def tasks(self, due: DueDates) -> list[str]:
         """What is to be done for the accounts, and by when."""
-        there = tasks_of(due, self.settled.day, self.report, standings_alone)
-        return [str(task) for number in self.book for task in there.get(number, [])]
+        tasks = tasks_of(due, self.settled.day, self.report, standings_alone)
+        return [str(task) for number in self.book for task in tasks.get(number, [])]
 
     def handed_in(self, office: Office, login: str) -> list[Handed]:
         """What was handed in for the next day of the accounts."""
-        there = approvals.handed_in_of(office)
-        return [self.told(office, there, part, row, login) for part, row in self.rows_handed(there)]
+        handed_in = approvals.handed_in_of(office)
+        return [self.told(office, handed_in, part, row, login) for part, row in self.rows_handed(handed_in)]
 
-    def rows_handed(self, there: HandedIn) -> Iterable[tuple[Part, str]]:
+    def rows_handed(self, handed_in: HandedIn) -> Iterable[tuple[Part, str]]:
         """The rows of instructions that count, of the accounts, each with its part."""
-        for part in there.parts:
-            for item in there.items_left(part) if part.kind == intake.DO else ():
+        for part in handed_in.parts:
+            for item in handed_in.items_left(part) if part.kind == intake.DO else ():
                 if int(item.rows[0].split(",", 6)[5]) in self.book:
                     yield part, item.rows[0]
 
@@ -124,25 +124,25 @@ class Own:
         """What a row asks for, for an account of the holder, with who proposes and approves it, and what the account
         holds."""
         instruction = rules.read_instruction(row.split(",")[1:])
-        own, user = self.in_words(instruction), self.settled.names.user
+        entry, user = self.in_words(instruction), self.settled.names.user
         by = f"proposed on {instruction.proposed} by {user(instruction.proposer)}"
         approver = f"{user(instruction.approver)} is asked to approve" if instruction.approver else "nobody approves it"
-        held = " and ".join(f"{grouped(held)} {kind}" for kind, held in self.account(own.number).held.items())
-        return f"account {own.number}, {own.words_with_amount}, {by}; {approver}. The account holds {held}"
+        held = " and ".join(f"{grouped(held)} {kind}" for kind, held in self.account(entry.number).held.items())
+        return f"account {entry.number}, {entry.words_with_amount}, {by}; {approver}. The account holds {held}"
 
-    def told(self, office: Office, there: HandedIn, part: Part, row: str, login: str) -> Handed:
+    def told(self, office: Office, handed_in: HandedIn, part: Part, row: str, login: str) -> Handed:
         """What a holder is told of an instruction."""
         instruction = rules.read_instruction(row.split(",")[1:])
-        number, own = instruction.first, self.in_words(instruction)
-        by = ", ".join(map(self.settled.names.user, filter(None, own.fields[1:3])))
+        number, entry = instruction.first, self.in_words(instruction)
+        by = ", ".join(map(self.settled.names.user, filter(None, entry.fields[1:3])))
         waits, key = "", ""
-        if part in there.waiting:
+        if part in handed_in.waiting:
             others = {user for user in instruction.fields[1:3] if user} - {str(user_of(office, part.login))}
             names = " or ".join(map(self.settled.names.user, sorted(others & users_of(self.book[number]))))
             waits = f"waits for {names}, or for the office" if names else "waits for the office"
             if may_approve(office, part, login):
                 waits, key = "waits for you", sum_of_outcome([row])
-        return Handed(number, own.words_with_amount, str(instruction.proposed), by, waits, key)
+        return Handed(number, entry.words_with_amount, str(instruction.proposed), by, waits, key)
 
 
 def user_of(office: Office, login: str) -> int | None:

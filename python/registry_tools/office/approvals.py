@@ -14,12 +14,14 @@ import json
 from collections.abc import Collection, Iterator
 from typing import NamedTuple
 
-from registry_tools import voice
+from registry_tools import opening, voice
+from registry_tools.layout import SETTINGS
 from registry_tools.office import intake, people
 from registry_tools.office.intake import Approved, HandedIn, Part
 from registry_tools.office.office import Office
 from registry_tools.store.events import APPROVED, ASKED, Event
 from registry_tools.store.texts import sum_of
+from registry_tools.texts import sections
 
 # Which command something that was handed in waits for, by what it has.
 COMMAND_OF = {intake.DO: "hand-in", intake.WORK: "hand-in", intake.CHANGES: "change", intake.EDITS: "change"}
@@ -38,56 +40,26 @@ class Asked(NamedTuple):
     state: str
 
     @property
-    def at(self) -> str:
-        """When it was asked for."""
-        return self.event.at
-
-    @property
-    def who(self) -> str:
-        """Who asked, by the name that was given."""
-        return self.event.who
-
-    @property
-    def login(self) -> str:
-        """The login that asked."""
-        return self.event.login
-
-    @property
-    def command(self) -> str:
-        """The command that is asked for."""
-        return self.event.kind
-
-    @property
-    def date(self) -> datetime.date:
-        """The day of the command."""
-        return self.event.date
-
-    @property
-    def result(self) -> str:
-        """The sum of what it gives."""
-        return self.event.sum
-
-    @property
     def commands(self) -> tuple[str, ...]:
         """All commands that whoever approves it has to be allowed."""
-        return (self.command, *self.event.beside.split())
+        return (self.event.kind, *self.event.beside.split())
 
     @property
     def sum(self) -> str:
         """The sum of what is asked for, whoever asks and whenever."""
-        own = self.event
-        return sum_of_words(own.kind, str(own.date), own.name, self.state, own.sum, own.beside)
+        event = self.event
+        return sum_of_words(event.kind, str(event.date), event.name, self.state, event.sum, event.beside)
 
     @property
     def words(self) -> tuple[str, str]:
         """The words by which it is approved."""
-        return self.command, str(self.date)
+        return self.event.kind, str(self.event.date)
 
     def __str__(self) -> str:
-        own = self.event
-        words, why, reason = own.name.partition(WHY)
-        said = [voice.option(word[2:]) if word.startswith("--") else word for word in words.split()]
-        return " ".join([own.kind, str(own.date), *said, *([voice.option("why"), reason] if why else [])])
+        event = self.event
+        words, why, reason = event.name.partition(WHY)
+        spoken = [voice.option(word[2:]) if word.startswith("--") else word for word in words.split()]
+        return " ".join([event.kind, str(event.date), *spoken, *([voice.option("why"), reason] if why else [])])
 
 
 def sum_of_words(*words: str) -> str:
@@ -97,7 +69,7 @@ def sum_of_words(*words: str) -> str:
 
 def waits(office: Office, *commands: str) -> bool:
     """Whether one of these commands waits for another login."""
-    return any(own in office.people.four_eyes for command in commands for own in LIKE.get(command, (command,)))
+    return any(right in office.people.four_eyes for command in commands for right in LIKE.get(command, (command,)))
 
 
 # What was asked for, and what approves it.
@@ -106,12 +78,24 @@ def waits(office: Office, *commands: str) -> bool:
 def all_asked(office: Office) -> list[Asked]:
     """What was asked for, and still would be done as it was asked: of each command and day, what was asked last."""
     state, found = office.events.state, dict[tuple[str, datetime.date], Asked]()
-    for event in reversed(office.events.all):
-        if event.what not in (ASKED, APPROVED):
-            break
-        if event.what == ASKED:
-            found.setdefault((event.kind, event.date), Asked(event, state))
+    for event in office.events.behind(office.events.lines.index(state) + 1 if state else 0):
+        if event.what == ASKED and event.kind != people.REWRITE:
+            found[event.kind, event.date] = Asked(event, state)
     return [found[key] for key in sorted(found)]
+
+
+def all_rewrites(office: Office) -> list[Event]:
+    """What was asked for as office.ini, and still may be approved: since then nobody took it back, and the same one
+    lies there."""
+    asked = [event for event in office.events.named(ASKED) if event.kind == people.REWRITE]
+    text_sum = sum_of(opening.read(office.path / SETTINGS)) if asked else ""
+    return [event for event in asked if event.sum == text_sum and event.id not in office.events.looked_at]
+
+
+def rewritten(office: Office, event: Event) -> list[str]:
+    """The lines of office.ini that go and come by what was asked for."""
+    old, new = (sections.letters_of(office.store.texts.get(each)) for each in (event.sum, event.text))
+    return sections.lines_between(office.path / SETTINGS, old, new)
 
 
 def all_approvals(office: Office) -> list[Event]:
@@ -130,7 +114,7 @@ def is_second(office: Office, approval: Event, commands: Collection[str], sum_as
     is_other = bool(login) and people.person_of(approval.login) not in office.people.hands_of(login)
     by = people.owner_of(approval.login)
     speaks = by == approval.login or office.people.may_speak(by)
-    may = all(office.people.may(approval.login, own) for own in commands)
+    may = all(office.people.may(approval.login, command) for command in commands)
     return is_other and speaks and may and approval.sum == sum_asked
 
 
@@ -147,13 +131,13 @@ def is_own(office: Office, part: Part, login: str = "") -> bool:
     """Whether a holder's login handed in what names no other user than its own; or whether it names that of another
     login of this holder, which so may approve it."""
     people_there = office.people
-    own, other = (people_there.named.get(people.person_of(each)) for each in (part.login, login or part.login))
-    if not own or not other or not people_there.may_have(part.login, people.OWN) or part.kind != intake.DO:
+    person, other = (people_there.named.get(people.person_of(each)) for each in (part.login, login or part.login))
+    if not person or not other or not people_there.may_have(part.login, people.OWN) or part.kind != intake.DO:
         return False
     text = office.store.texts.get(part.sum).decode("utf-8", "surrogateescape")
     users = {user for row in text.splitlines() if row != "end" for user in row.split(",")[2:4] if user}
-    tied = [each.tied_to(people.HOLDER) for each in (own, other)]
-    return tied[0] == tied[1] and users <= {str(each.tied_to(people.USER)) for each in (own, other)}
+    tied = [each.tied_to(people.HOLDER) for each in (person, other)]
+    return tied[0] == tied[1] and users <= {str(each.tied_to(people.USER)) for each in (person, other)}
 
 
 def handed_in_of(office: Office) -> HandedIn:
@@ -181,7 +165,7 @@ def commands_for(office: Office, part: Part, login: str) -> tuple[str, ...]:
 
 def approvers(office: Office, asked: Asked) -> list[str]:
     """The logins that approved what is asked for."""
-    of_others = asked.commands, asked.sum, asked.login
+    of_others = asked.commands, asked.sum, asked.event.login
     return [approval.login for approval in all_approvals(office) if is_second(office, approval, *of_others)]
 
 
@@ -206,18 +190,18 @@ def let_through(
     if not waits(office, command, *beside):
         return ""
     state = office.events.state
-    said = {"kind": command, "date": date, "name": words, "sum": result, "beside": " ".join(beside)}
-    asked = Asked(Event(ASKED, login=office.login, **said), state)  # type: ignore[arg-type]
+    values = {"kind": command, "date": date, "name": words, "sum": result, "beside": " ".join(beside)}
+    asked = Asked(Event(ASKED, login=office.login, **values), state)  # type: ignore[arg-type]
     by = approvers(office, asked)
     if by:
         return ", ".join(by)
-    kept = Asked(office.add(ASKED, **said), state)
-    return AskedFor(kept, second_for(office, kept.commands, kept.login))
+    kept = Asked(office.add(ASKED, **values), state)
+    return AskedFor(kept, second_for(office, kept.commands, kept.event.login))
 
 
 def way(asked: Asked) -> str:
     """The command that approves what is asked for."""
-    return voice.command("approve", asked.command, "--date", asked.date)
+    return voice.command("approve", asked.event.kind, "--date", asked.event.date)
 
 
 def second_for(office: Office, commands: Collection[str], login: str) -> str:
@@ -237,16 +221,12 @@ class Waits(NamedTuple):
     """Something that waits for another login, in words; what that is, what to do, the words of ./day approve, if it is
     not approved yet, and its part of what was handed in."""
 
-    said: str
+    told: str
     what: str
     way: str
     words: tuple[str, ...]
     part: Part | None = None
-
-    @property
-    def line(self) -> str:
-        """All of it, for who gives commands."""
-        return f"{self.said}: {self.way}"
+    rows: list[str] = []
 
 
 def all_waiting(office: Office, handed_in: HandedIn) -> Iterator[Waits]:
@@ -258,15 +238,20 @@ def all_waiting(office: Office, handed_in: HandedIn) -> Iterator[Waits]:
         way_of_part = voice.command("approve", place)
         yield Waits(f"{where}, {command} by {by}, waits for {second}", where, way_of_part, (place,), part)
     for asked in all_asked(office):
-        own, others = who_did(office, asked.who, asked.login), approvers(office, asked)
+        asker, others = who_did(office, asked.event.who, asked.event.login), approvers(office, asked)
         if others:
             by = ", ".join(map(office.people.in_words, others))
             again = voice.either("give the command again", "ask for it again, by its page")
-            yield Waits(f"{asked}, asked for by {own}, is approved by {by}", str(asked), again, ())
+            yield Waits(f"{asked}, asked for by {asker}, is approved by {by}", str(asked), again, ())
         else:
-            second = second_for(office, asked.commands, asked.login)
-            line = f"{asked}, asked for by {own}, waits for {second}"
+            second = second_for(office, asked.commands, asked.event.login)
+            line = f"{asked}, asked for by {asker}, waits for {second}"
             yield Waits(line, str(asked), way(asked), asked.words)
+    for event in all_rewrites(office):
+        what, words = f"event {event.id}, another {SETTINGS}", (people.REWRITE, str(event.id))
+        second, by = second_for(office, words[:1], event.login), who_did(office, event.who, event.login)
+        line = f"{what}, asked for by {by}: {event.why}: waits for {second}"
+        yield Waits(line, what, voice.command("approve", *words), words, rows=rewritten(office, event))
 
 
 def told_of_new(office: Office, parts: list[Part]) -> list[str]:
@@ -286,5 +271,5 @@ def who_did(office: Office, who: str, login: str) -> str:
     """Who did something: the name that was given, and the login if that is another one."""
     if not login:
         return who
-    own = office.people.in_words(login)
-    return own if who in (people.person_of(login), people.owner_of(login)) else f"{who}, login {own}"
+    asker = office.people.in_words(login)
+    return asker if who in (people.person_of(login), people.owner_of(login)) else f"{who}, login {asker}"

@@ -49,7 +49,7 @@ def approve_places(office: Office, by: By, places: tuple[str, ...]) -> list[Appr
             office.add(APPROVED, of=part.event.id, sum=sum_asked, name=where)
             by_whom = approvals.who_did(office, part.who, part.login)
             done.append(ApprovedPart(where, by_whom, part.name, rows_left(handed_in, part), becomes))
-        office.must_be_as_shown(by, [sum_of_outcome([*own.rows, *own.becomes]) for own in done])
+        office.must_be_as_shown(by, [sum_of_outcome([*part.rows, *part.becomes]) for part in done])
     return done
 
 
@@ -84,13 +84,13 @@ def must_be_other(office: Office, commands: Collection[str], who: str, login: st
     again = "take it back, and hand it in once more"
     if not login:
         raise WordsFault("nobody knows who handed it in, and so nobody is the second one", again)
-    own = people.person_of(office.login)
-    if people.person_of(login) == own:
+    person = people.person_of(office.login)
+    if people.person_of(login) == person:
         raise WordsFault(f"{approvals.who_did(office, who, login)} asked for it", "another login approves it")
-    if own in office.people.hands_of(login):
-        passed = f"{own} passed it on when a day was filed or undone"
+    if person in office.people.hands_of(login):
+        passed = f"{person} passed it on when a day was filed or undone"
         way = f"another login approves it, or {again}"
-        raise WordsFault(f"{passed}, and who did it is told by {own} alone", way)
+        raise WordsFault(f"{passed}, and who did it is told by {person} alone", way)
     for command in commands:
         people.must_be_allowed(office.people, office.login, command)
 
@@ -107,18 +107,18 @@ def approve_command(office: Office, by: By, command: str, date: datetime.date) -
             way = f"{voice.command(command)} asks for it"
             raise WordsFault(f"nobody asked for {command} of {date} as the folder stands now", way)
         asked = asked_for[0]
-        must_be_other(office, asked.commands, asked.who, asked.login)
+        must_be_other(office, asked.commands, asked.event.who, asked.event.login)
         must_be_same(office, asked)
         if office.login not in approvals.approvers(office, asked):
             office.add(APPROVED, of=asked.event.id, sum=asked.sum, name=str(asked))
-        return asked, approvals.who_did(office, asked.who, asked.login)
+        return asked, approvals.who_did(office, asked.event.who, asked.event.login)
 
 
 def must_be_same(office: Office, asked: Asked) -> None:
     """Ends the command if what is asked for would give another text by now."""
-    if asked.command != "close":
+    if asked.event.kind != "close":
         return
-    composed = composing.compose(office, approvals.handed_in_of(office).until(asked.date), asked.date)
-    if composed.sum() != asked.result:
+    composed = composing.compose(office, approvals.handed_in_of(office).until(asked.event.date), asked.event.date)
+    if composed.sum() != asked.event.sum:
         way = f"{voice.command('close')} asks once more"
-        raise WordsFault(f"what closing {asked.date} gives has changed since it was asked for", way)
+        raise WordsFault(f"what closing {asked.event.date} gives has changed since it was asked for", way)

@@ -81,13 +81,13 @@ def with_all_lags(made: Iterable[Edit], lags: dict[str, int]) -> Iterator[Edit]:
     now, is_told = {name: str(days) for name, days in lags.items()}, False
     now.update(edit.words[1:] for edit in made if edit.words[0] == LAG)  # type: ignore[misc]
     for edit in made:
-        own = edit
+        fitting = edit
         if edit.words[0] == LAG:
             if is_told:
                 continue
-            own, is_told = Edit(0, PUT, ("lags", *(now[name] for name in LAGS))), True
-        edits.must_be_readable(own)
-        yield own
+            fitting, is_told = Edit(0, PUT, ("lags", *(now[name] for name in LAGS))), True
+        edits.must_be_readable(fitting)
+        yield fitting
 
 
 def rows_between(before: DayText, after: DayText) -> Iterator[str]:
@@ -109,12 +109,12 @@ def look_at_waiting(office: Office, handed_in: HandedIn, part: Part) -> list[str
     it, or if it is none by hand."""
     if part.kind not in (intake.CHANGES, intake.EDITS):
         return []
-    others = [own for own in handed_in.waiting if own.start != part.start]
+    others = [other for other in handed_in.waiting if other.start != part.start]
     # (what keeps it out of the next day is told where that day is made)
     with contextlib.suppress(Fault):
         date = composing.settlement_date(office, handed_in)
         both = handed_in.until(date), replace(handed_in, waiting=others).until(date)
-        before, after = (composing.compose(office, own, date).day() for own in both)
+        before, after = (composing.compose(office, incoming, date).day() for incoming in both)
         return [*rows_between(before, after)]
     return []
 

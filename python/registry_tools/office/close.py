@@ -9,6 +9,7 @@ from dataclasses import dataclass
 
 from registry_tools import voice
 from registry_tools.calendars.due_days import NOT_DUE
+from registry_tools.engine import confirm_figures
 from registry_tools.errors import WordsFault, raise_first
 from registry_tools.notes import LOOK, counted, worth_telling
 from registry_tools.office import approvals, composing, intake, trial
@@ -112,11 +113,11 @@ def close(office: Office, by: By, asked: Close) -> Closed | Doubts | AskedFor:
 def closed_with_more(settled: Settled) -> Iterator[str]:
     """Tells of each account that the day closes, if it still holds something, something of it waits, or something is
     missing for it: no act is done on a closed account any more."""
-    left = [own.instruction for own in settled.composed.waiting if not own.entered]
-    left += [own.instruction for own in settled.report.log if own.name == NOT_DUE]
-    for own in settled.report.log:
-        i = own.instruction
-        if not own.is_done or i.act != "status" or i.status != "closed":
+    left = [waits.instruction for waits in settled.composed.waiting if not waits.entered]
+    left += [row.instruction for row in settled.report.log if row.name == NOT_DUE]
+    for row in settled.report.log:
+        i = row.instruction
+        if not row.is_done or i.act != "status" or i.status != "closed":
             continue
         account = settled.report.book[i.first].account()
         told = [f"it holds {grouped(amount)} {kind} allowances" for kind, amount in account.held.items() if amount]
@@ -251,7 +252,7 @@ class Outcome:
 def outcome_of_day(settled: Settled) -> Outcome:
     """What came of a settled day, as it is told."""
     day, report = settled.day, settled.report
-    refused = Counter(own.name for own in report.log if not own.is_done and own.name != NOT_DUE)
+    refused = Counter(row.name for row in report.log if not row.is_done and row.name != NOT_DUE)
     done, waiting = sum(logged.is_done for logged in report.log), waiting_after(settled)
     notes = [*worth_telling(settled.composed.notes), *closed_with_more(settled)]
     compliant = compliance_share(settled)
@@ -270,9 +271,13 @@ def waiting_after(settled: Settled) -> int:
 
 
 def compliance_share(settled: Settled) -> tuple[int, int, int] | None:
-    """How many operators are compliant for the last year that is over, if there is one."""
+    """How many operators are compliant for the last year that is over, if there is one. Raises FileFault if the second
+    answer settled alone, and the library was built and determines other figures."""
     try:
         year = last_year_over(settled.day.head)
     except WordsFault:
         return None
+    if settled.engine == SECOND_ANSWER:
+        # (of an engine, the second answer has worked out each figure that the day touches)
+        confirm_figures(settled.day, settled.report)
     return year, *compliant_share(settled.day, settled.report, year)

@@ -23,7 +23,7 @@ from registry_tools.texts.accounts import Accounts, Reader
 from registry_tools.texts.day_text import DayText, day_of
 from registry_tools.texts.repeated import tell_dates
 from registry_tools.texts.report import Report
-from registry_tools.texts.rows import KeptText, Rows, rows_of_text, text_of_rows
+from registry_tools.texts.rows import Rows, rows_of_text, text_of_rows
 
 # How a row begins behind which the rows of an account stand.
 ACCOUNT = re.compile("account,([0-9]{1,9}),")
@@ -59,7 +59,7 @@ class NextDay:
 
     def pending_file(self) -> pending.PendingFile:
         """The same as if it had been read."""
-        return pending.PendingFile(NEXT_DAY, self.made, [(own, line) for line, own in enumerate(self.waiting, 2)])
+        return pending.PendingFile(NEXT_DAY, self.made, [(waits, line) for line, waits in enumerate(self.waiting, 2)])
 
     def sum(self) -> str:
         """The sum of all that it is made of: what comes of it is the same as long as this is."""
@@ -67,8 +67,8 @@ class NextDay:
 
     def day(self, path: str = NEXT_DAY) -> DayText:
         """The text, read again with all checks. A fault names the path."""
-        known = self.before[1].known(self.before[0]) if self.before else None
-        return day_of(rows_of_text(path, self.text.decode("utf-8", "surrogateescape")), known)
+        accounts = self.before[1].known(self.before[0]) if self.before else None
+        return day_of(rows_of_text(path, self.text.decode("utf-8", "surrogateescape")), accounts)
 
 
 def settlement_date(office: Office, handed_in: HandedIn) -> datetime.date:
@@ -122,8 +122,8 @@ def last_day(office: Office) -> Event:
 def last_pair(office: Office, has_book: bool = True) -> tuple[DayText, Report]:
     """The last day of a folder, and its report; without the accounts before the day, if nobody asks for them."""
     last = last_day(office)
-    if office.known is not None and office.known[0] == last.line:
-        return office.known[1:]
+    if office.last_read is not None and office.last_read[0] == last.line:
+        return office.last_read[1:]
     return past.read(office.store.pair_of(last), None, has_book)
 
 
@@ -141,7 +141,7 @@ def telling_the_way_out() -> Iterator[None]:
         yield
     except FileFault as fault:
         if fault.place is not None and fault.expected:
-            fault.way = f"{voice.command('take-back', fault.place)} takes it back"
+            fault.add_way(f"{voice.command('take-back', fault.place)} takes it back")
         raise
 
 
@@ -177,8 +177,8 @@ def about_first(first: DayText, new: list[Item]) -> Iterator[str]:
     more = f"{voice.command('init')} takes a first text with more work rows"
     calendars.look_at_calendar(first.head, first.book, notes, more)
     for name, items in itertools.groupby(new, lambda item: item.part.name):
-        own = [*items]
-        rows = [row for item in own for row in item.rows], [line for item in own for line in item.lines]
+        about = [*items]
+        rows = [row for item in about for row in item.rows], [line for item in about for line in item.lines]
         tell_dates(Rows(name, *rows), first.head, notes)
     yield from notes.lines
 
@@ -189,10 +189,10 @@ def later_day(office: Office, handed_in: HandedIn, date: datetime.date) -> NextD
     day, report = last_pair(office, has_book=False)
     if date <= last.date:
         raise not_later(office, handed_in, date)
-    contents, name = handed_in.contents(), voice.path(f"{office.store.path}/next")
+    name = voice.path(f"{office.store.path}/next")
     merged = Merged(name, handed_in)
     try:
-        composed = later_text(day, report, date, contents, office.store.kept(last, "waiting"), name)
+        composed = later_text(day, report, date, handed_in.merged(), office.store.kept(last, "waiting"), name)
     except FileFault as fault:
         if str(fault.path).startswith(f"{name}/"):
             item, _ = merged.item(str(fault.path), fault.line)
@@ -207,21 +207,23 @@ def later_day(office: Office, handed_in: HandedIn, date: datetime.date) -> NextD
 
 
 def later_text(
-    day: DayText, report: Report, date: datetime.date, contents: dict[str, bytes], waits: str, name: str
+    day: DayText, report: Report, date: datetime.date, merged: dict[str, Rows], waits: str, name: str
 ) -> NextDay:
-    """The text of a later day, made of what was handed in: a text of each kind. A fault or note names `name`/KIND.csv.
-    """
-    paths = {kind: text_kept(f"{name}/{kind}.csv", content) for kind, content in contents.items()}
+    """The text of a later day, made of what was handed in: rows of each kind. A fault or note names `name`/KIND.csv."""
+    given = {kind: replace(rows, path=f"{name}/{kind}.csv") for kind, rows in merged.items()}
     notes = Notes()
-    calendar = calendars.next_calendar(day, paths[WORK], notes)
-    made = edits_in(f"{name}/{EDITS}.csv", contents[EDITS])
-    heading = edits.edited_heading(made, [*next_day.heading_of(day, date, report.next_record, calendar)])
+    calendar = calendars.next_calendar(day, given[WORK] or None, notes)
+    made = edits_in(given[EDITS])
+    heading = [*next_day.heading_of(day, date, report.next_record, calendar)]
+    of_rules = [edit for edit in made if not edit.number]
+    if of_rules:
+        heading = edits.edited_heading(of_rules, heading)
     head = head_of(heading)
-    changes = edited_changes(made, report, paths[CHANGES], name)
+    changes = edited_changes(made, report, given[CHANGES], name) if made or given[CHANGES] else None
     book = next_day.book_with_changes(day, report, changes, notes, head.periods)
     notes.lines += [
         f"{BY_HAND}: the rules: {difference}"
-        for difference in edits.rows_gone_and_come(day.heading, heading)
+        for difference in (edits.rows_gone_and_come(day.heading, heading) if of_rules else ())
         if not difference[2:].startswith(("day,", "work,"))
     ]
     head = replace(head, accounts=Accounts(book))
@@ -229,7 +231,7 @@ def later_text(
     calendars.look_at_calendar(head, book, notes)
     waiting = next_day.waiting_after(day, report, pending.read_pending(waits), date, notes)
     entered = next_day.enter_due(head, waiting, notes)
-    new = next_day.new_instructions(paths[DO], report, len(entered))
+    new = next_day.new_instructions(given[DO] or None, report, len(entered))
     tell_dates(new, head, notes)
     next_day.check_count(report.next_record, len(entered) + len(new))
     rows = heading
@@ -254,12 +256,7 @@ def head_of(heading: list[str]) -> rules.Day:
     return rules.day_of_fields(row.split(",") for row in heading)
 
 
-# What was handed in, as one text of each kind.
-
-
-def text_kept(name: str, content: bytes) -> KeptText | None:
-    """A text by its name; none, if there is nothing in it."""
-    return KeptText(name, lambda: content) if content else None
+# What was handed in, as the rows of each kind.
 
 
 class Merged:
@@ -275,9 +272,9 @@ class Merged:
 
     def origin(self, path: str, line: int) -> tuple[str, int]:
         """Where a row of a merged text came from. A block of several changes has no single line."""
-        item, own = self.item(path, line)
+        item, number = self.item(path, line)
         if item:
-            return item.part.name, own
+            return item.part.name, number
         return f"the {NAMES[path.rpartition('/')[2].removesuffix('.csv')]} handed in", 0
 
     def item(self, path: str, line: int) -> tuple[Item | None, int]:
@@ -299,39 +296,38 @@ class Merged:
         return self.path.sub(where, note)
 
 
-def edits_in(name: str, content: bytes) -> list[Edit]:
-    """The differences of a text, which a command of the folder wrote: each other row is a fault of it."""
+def edits_in(given: Rows) -> list[Edit]:
+    """The differences that rows say, which a command of the folder wrote: each other row is a fault."""
     made = []
-    for line, row in enumerate(content.decode("utf-8", "surrogateescape").splitlines(), 1):
+    for place, row in enumerate(given.rows):
         try:
             made.append(edits.edit_of(row))
             edits.must_be_readable(made[-1])
         except WordsFault:
             expected = f"a change by hand, as {voice.command('change')} writes it"
-            raise FileFault(name, line, "row", shown(row), expected) from None
+            raise given.fault(place, "row", shown(row), expected) from None
     return made
 
 
-def blocks_in(text: KeptText | None) -> dict[int, list[str]]:
-    """The rows of each account of a text of accounts, which need not rise."""
+def blocks_in(given: Rows) -> dict[int, list[str]]:
+    """The rows of each account, which need not rise."""
     blocks: dict[int, list[str]] = {}
-    own: list[str] | None = None
-    rows = text.content().decode("utf-8", "surrogateescape").splitlines() if text is not None else []
-    for line, row in enumerate(rows, 1):
+    block: list[str] | None = None
+    for place, row in enumerate(given.rows):
         begins = ACCOUNT.match(row)
         if begins:
-            own = blocks[int(begins[1])] = []
-        if own is None or (row.startswith("account,") and not begins):
-            raise FileFault(str(text), line, "row", shown(row), "accounts, as they were handed in")
-        own.append(row)
+            block = blocks[int(begins[1])] = []
+        if block is None or (row.startswith("account,") and not begins):
+            raise given.fault(place, "row", shown(row), "accounts, as they were handed in")
+        block.append(row)
     return blocks
 
 
-def edited_changes(made: list[Edit], report: Report, text: KeptText | None, name: str) -> KeptText | None:
-    """The accounts that are changed by hand: by whole blocks, and by differences. Without differences, the text of
-    blocks, if its accounts rise."""
-    blocks = blocks_in(text)
+def edited_changes(made: list[Edit], report: Report, given: Rows, name: str) -> Rows | None:
+    """The accounts that are changed by hand: by whole blocks, and by differences. Without differences, the rows of
+    blocks as they are, if the accounts rise."""
+    blocks = blocks_in(given)
     if not any(edit.number for edit in made) and [*blocks] == sorted(blocks):
-        return text
-    changed = edits.edited_blocks(made, report, blocks)
-    return text_kept(f"{name}/edited/{CHANGES}.csv", text_of_rows([row for rows in changed.values() for row in rows]))
+        return given or None
+    changed = [row for block in edits.edited_blocks(made, report, blocks).values() for row in block]
+    return Rows(f"{name}/edited/{CHANGES}.csv", changed, range(1, len(changed) + 1)) if changed else None

@@ -92,7 +92,7 @@ def correct(office: Office, by: By, asked: Correct) -> Corrected | Shown | tuple
         must_be_open(office, asked.date, asked.without)
         added = [incoming.read(each) for each in asked.files]
         # (what it adds needs what ./day hand-in and ./day change need: the right, and the second one)
-        beside = sorted({approvals.COMMAND_OF[own.kind] for own in added})
+        beside = sorted({approvals.COMMAND_OF[incoming.kind] for incoming in added})
         for command in beside:
             people.must_be_allowed(office.people, office.login, command)
         correction = Correction(office, asked, added)
@@ -105,7 +105,7 @@ def correct(office: Office, by: By, asked: Correct) -> Corrected | Shown | tuple
         shown = correction.shown(settled)
         if not asked.yes:
             return shown
-        result = sum_of(b"".join(own.composed.text + own.report_text for own in settled))
+        result = sum_of(b"".join(day.composed.text + day.report_text for day in settled))
         approved = approvals.let_through(office, "correct", asked.date, asked_words(asked, added), result, beside)
         if isinstance(approved, AskedFor):
             return shown, approved
@@ -116,7 +116,7 @@ def correct(office: Office, by: By, asked: Correct) -> Corrected | Shown | tuple
 def asked_words(asked: Correct, added: list[Incoming]) -> str:
     """What is asked for, so that somebody else can look at it: the files with their rows."""
     parts = [f"--without {record}" for record in asked.without]
-    parts += [f"--with {own.given.name} ({'; '.join(own.rows.rows)})" for own in added]
+    parts += [f"--with {incoming.given.name} ({'; '.join(incoming.rows.rows)})" for incoming in added]
     return " ".join([*parts, *(["--second"] if asked.by_second else []), f"--why {asked.why}"])
 
 
@@ -132,12 +132,12 @@ def must_be_open(office: Office, date: datetime.date, without: tuple[int, ...]) 
         return
     law = [line for record in without for line in law_of(office, record)]
     more = "; ".join(law or ["hand in for the next day what was left out"])
-    raise WordsFault(f"{date} was released, and is not corrected: others know of it. By the rules, {more}")
+    raise WordsFault(f"{date} was released, and is not corrected: others know of it", f"By the rules, {more}", ". ")
 
 
 def law_of(office: Office, record: int) -> list[str]:
     """What corrects a record that others know of."""
-    event = next((own for own in office.events.days if own.first <= record < own.next), None)
+    event = next((each for each in office.events.days if each.first <= record < each.next), None)
     if event is None:
         return []
     day, report = past.read(office.store.pair_of(event))
@@ -197,9 +197,10 @@ class Correction:
         event, logged = self.logged(record)
         row = logged.instruction.row
         why = f"{voice.option('without', record)}: it waited since an earlier day, which it was handed in for: {row}"
-        for earlier in reversed([own for own in self.all_days if own.date < event.date]):
+        for earlier in reversed([day for day in self.all_days if day.date < event.date]):
             _, report = past.read(self.office.store.pair_of(earlier))
-            waited = [own.record for own in report.log if own.name == NOT_DUE and own.instruction.row == row]
+            not_due = (logged for logged in report.log if logged.name == NOT_DUE)
+            waited = [logged.record for logged in not_due if logged.instruction.row == row]
             if waited:
                 way = f"{voice.command('correct', earlier.date, '--without', waited[0])} leaves it out"
                 return WordsFault(why, way, "; ")
@@ -226,8 +227,8 @@ class Correction:
         """Takes the days back, the last one first."""
         office = self.office
         for last in reversed(self.days):
-            said = {"of": last.id, "date": last.date, "first": last.first, "next": last.next}
-            office.add(UNDONE, why=self.asked.why, approved=approved, **said)
+            values = {"of": last.id, "date": last.date, "first": last.first, "next": last.next}
+            office.add(UNDONE, why=self.asked.why, approved=approved, **values)
             daybook.remove_day(office.store.db, last.date)
         trial.forget(office)
 
@@ -307,11 +308,11 @@ class Correction:
 
     def must_name_the_same(self, settled: list[Settled]) -> None:
         """Ends the command if a reversal names a record that becomes another one."""
-        old = {own.record: own for past_day in self.before for own in past_day.report.log}
-        new = {own.record: own for day in settled for own in day.report.log}
-        rows = [own.instruction.row for day in settled for own in day.report.log]
+        old = {row.record: row for past_day in self.before for row in past_day.report.log}
+        new = {row.record: row for day in settled for row in day.report.log}
+        rows = [row.instruction.row for day in settled for row in day.report.log]
         rows += [row for item in self.since.items(DO) for row in item.rows]
-        rows += [own.instruction.row for own in self.waits]
+        rows += [waiting.instruction.row for waiting in self.waits]
         for row in dict.fromkeys(rows):
             fields = row.split(",")
             if fields[4] != REVERSE or not (fields[6].isascii() and fields[6].isdigit()):

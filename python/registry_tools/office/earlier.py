@@ -53,10 +53,10 @@ def dates_of(office: Office, rows: set[str]) -> dict[str, set[str]]:
     for row in rows:
         _, proposed, proposer, _, act, account, *_ = row.split(",")
         by_account[account].append((proposed, proposer, act, row))
-    for account, own in by_account.items():
-        dates = [each[0] for each in own]
+    for account, wanted in by_account.items():
+        dates = [each[0] for each in wanted]
         for date, *like in office.store.tables.execute(OF_ACCOUNT, (account, min(dates), max(dates))):
-            found[date] |= {each[-1] for each in own if each[:-1] == tuple(like)}
+            found[date] |= {each[-1] for each in wanted if each[:-1] == tuple(like)}
     return found
 
 
@@ -83,7 +83,7 @@ def accounts_had(office: Office) -> dict[tuple[str, ...], str]:
 
 def file_had(office: Office, sum_of_file: str) -> str:
     """Where a file with this sum was handed in before, in words; nothing, if it never was."""
-    if not any(own.what == HANDED and own.text == sum_of_file for own in office.events.all):
+    if not any(event.text == sum_of_file for event in office.events.named(HANDED)):
         return ""
     for event in office.events.days:
         for part in intake.for_a_day(office.store, event).parts:

@@ -13,6 +13,7 @@ from registry_tools.office import settings
 from registry_tools.layout import SETTINGS
 from registry_tools.office.office import Office
 from registry_tools.store import file
+from registry_tools.store.events import Events
 
 # The variable that names the folder for whoever stands in none, and names none.
 VARIABLE = "REGISTRY_OFFICE"
@@ -23,12 +24,12 @@ WHERE = f"the folder of days; without it, the one in which the command is run, o
 def folder_of(word: str | None) -> Path:
     """The folder that a command works on: the named one, or the one in which it is run, or the one that a variable
     names. Raises WordsFault if it is no folder of days."""
-    known = os.environ.get(VARIABLE)
+    named = os.environ.get(VARIABLE)
     ways = f"--office FOLDER names one, {voice.command('init')} makes one"
     if word is not None:
         path, where = Path(word), voice.either(f"--office {word}", "the folder")
-    elif known and not Path(SETTINGS).is_file():
-        path, where = Path(known), f"{VARIABLE}={known}"
+    elif named and not Path(SETTINGS).is_file():
+        path, where = Path(named), f"{VARIABLE}={named}"
     else:
         path, where = Path("."), "this folder"
         ways = f"--office FOLDER or {VARIABLE} names one, {voice.command('init')} makes one"
@@ -39,10 +40,11 @@ def folder_of(word: str | None) -> Path:
     return path
 
 
-def at(path: Path) -> Office:
-    """The folder at a path. Raises FileFault if its settings or its file cannot be read."""
+def at(path: Path, first: Events | None = None) -> Office:
+    """The folder at a path, of which somebody may have read the first events. Raises FileFault if its settings or its
+    file cannot be read."""
     opening.guard(path)
-    store = file.opened(path)
+    store = file.opened(path, first)
     return Office(path, settings.read(path / SETTINGS), store)
 
 

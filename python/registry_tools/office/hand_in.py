@@ -1,6 +1,6 @@
 """Hands in instructions, working days, or accounts that are new or changed by hand, for the next day of a folder."""
 from collections.abc import Sequence
-from dataclasses import dataclass, field
+from dataclasses import dataclass, field, replace
 from typing import NamedTuple
 
 from registry_tools import voice
@@ -52,9 +52,9 @@ def hand_in(office: Office, by: By, asked: HandIn) -> Added:
     """Hands files in, and tries the next day with them. Raises FileFault at a fault of a file, or of the next day as a
     whole, and WordsFault or RightsFault if it may not be so: then nothing is handed in."""
     with office.changing("hand-in", by):
-        own = added(office, asked)
-        office.must_be_as_shown(by, own.outcome())
-        return own
+        answer = added(office, asked)
+        office.must_be_as_shown(by, answer.outcome())
+        return answer
 
 
 def look_at(office: Office, by: By, asked: HandIn) -> Added:
@@ -103,14 +103,14 @@ class Here:
 
     def named_as(self, part: Part) -> str:
         """The file of this command that a part is, in words; nothing, if it was handed in before."""
-        return next((f"{path}, named in this command" for own, path in self.named if own is part), "")
+        return next((f"{path}, named in this command" for earlier_part, path in self.named if earlier_part is part), "")
 
-    def takes(self, own: Given, line: int, before: "Before") -> bool:
+    def takes(self, given: Given, line: int, before: "Before") -> bool:
         """Whether something that the folder has had comes again: if a day refused it, or the words say that it is
         meant."""
-        is_meant = (own.path, line) in self.lines or before.place in self.numbers
+        is_meant = (given.path, line) in self.lines or before.place in self.numbers
         if is_meant or before.may_come:
-            self.told.append(f"{own.told}:{line}: {before.words}")
+            self.told.append(f"{given.told}:{line}: {before.words}")
         return is_meant or before.may_come
 
 
@@ -130,21 +130,25 @@ class Before(NamedTuple):
     may_come: bool = False
 
 
-def add(office: Office, here: Here, own: Incoming) -> Part:
+def add(office: Office, here: Here, incoming: Incoming) -> Part:
     """Hands a file in."""
-    meant = (line for path, line in here.lines if path == own.given.path)
-    for line in (line for line in meant if line not in own.begun):
-        raise WordsFault(f"--again {own.path}:{line}: no instruction or account begins there")
+    meant = (line for path, line in here.lines if path == incoming.given.path)
+    for line in (line for line in meant if line not in incoming.begun):
+        raise WordsFault(f"--again {incoming.path}:{line}: no instruction or account begins there")
     # (an account that is handed in as a whole is changed by hand; and ./day correct adds what others hand in)
-    people.must_be_allowed(office.people, office.login, approvals.COMMAND_OF[own.kind])
-    if own.kind == DO:
-        refuse_instructions(office, here, own)
-    if own.kind == CHANGES:
-        refuse_accounts(here, own)
-        refuse_blocks(office, here, own)
-    part = intake.put(office, here.handed_in, own.kind, own.content, own.count, own.given.name, own.originals)
-    here.named.append((part, own.path))
-    here.hidden += own.hidden
+    people.must_be_allowed(office.people, office.login, approvals.COMMAND_OF[incoming.kind])
+    if incoming.kind == DO:
+        refuse_instructions(office, here, incoming)
+    if incoming.kind == CHANGES:
+        refuse_accounts(here, incoming)
+        refuse_blocks(office, here, incoming)
+    name, originals = incoming.given.name, incoming.originals
+    part = intake.put(office, here.handed_in, incoming.kind, incoming.content, incoming.count, name, originals)
+    if not originals:
+        # (what was read of the file is read no second time; the rows of a table have other lines there)
+        here.handed_in.rows_of[part.sum] = replace(incoming.rows, path=name)
+    here.named.append((part, incoming.path))
+    here.hidden += incoming.hidden
     return part
 
 
@@ -193,14 +197,14 @@ def refuse_instructions(office: Office, here: Here, file: Incoming) -> None:
             had[row] = Before(f"one as in line {line}: {row}")
 
 
-def refuse_blocks(office: Office, here: Here, own: Incoming) -> None:
+def refuse_blocks(office: Office, here: Here, incoming: Incoming) -> None:
     """Ends the command at an account that a settled day has had with the same rows: since then it may have changed."""
     days = earlier.accounts_had(office)
-    for line, rows in zip(own.begun, earlier.items_of_text(CHANGES, own.content)):
+    for line, rows in zip(incoming.begun, earlier.items_of_text(CHANGES, incoming.content)):
         date = days.get(tuple(rows))
         if date:
             before = Before(f"the rows that {date} has had of this account")
-            refuse(office, here, own, line, ("account", "an account that is new or has changed"), before)
+            refuse(office, here, incoming, line, ("account", "an account that is new or has changed"), before)
 
 
 def refuse_accounts(here: Here, file: Incoming) -> None:

@@ -94,30 +94,30 @@ class TableFault(FileFault):
         return self.wrong[: importing.MOST_TOLD]
 
 
-def read(own: Given, forms: Forms = Forms()) -> Incoming:
+def read(given: Given, forms: Forms = Forms()) -> Incoming:
     """What a file hands in. Ends the command at the first fault of a row, or with all those of a table's cells."""
-    content = packed_bytes_of(own.path)
+    content = packed_bytes_of(given.path)
     if forms.mapping.path or is_table(content):
-        return read_table(own, content, forms)
-    content = text_handed_in(own, content)
-    source = rows_of_text(own.told, content.decode("utf-8-sig", "surrogateescape"))
+        return read_table(given, content, forms)
+    content = text_handed_in(given, content)
+    source = rows_of_text(given.told, content.decode("utf-8-sig", "surrogateescape"))
     kind = kind_of_rows(source)
     # (checking takes the row `end` away)
     count = checked_count(replace(source, rows=[*source.rows]), kind)
-    return Incoming(own, kind, source, count, content)
+    return Incoming(given, kind, source, count, content)
 
 
-def text_handed_in(own: Given, content: bytes) -> bytes:
+def text_handed_in(given: Given, content: bytes) -> bytes:
     """The text that a file with this content hands in. Raises FileFault if it is too long."""
-    limits.must_have_room(own.told, content)
-    text = unpacked(own.told, content, limits.MOST_BYTES)
-    limits.must_have_lines(own.told, text)
+    limits.must_have_room(given.told, content)
+    text = unpacked(given.told, content, limits.MOST_BYTES)
+    limits.must_have_lines(given.told, text)
     return text
 
 
-def read_table(own: Given, content: bytes, forms: Forms) -> Incoming:
+def read_table(given: Given, content: bytes, forms: Forms) -> Incoming:
     """What a table hands in."""
-    path = own.told
+    path = given.told
     made = importing.imported(sheets.read_content(path, content), forms.are_accounts, forms.dates, forms.mapping)
     if made.wrong:
         raise TableFault(path, made.wrong)
@@ -125,12 +125,12 @@ def read_table(own: Given, content: bytes, forms: Forms) -> Incoming:
     if not made.made:
         raise FileFault(path, 0, "", "no row below the names of the columns", "at least one")
     rows = Rows(path, made.rows, made.lines)
-    originals = [Original(TABLE, ending_of(content), content, own.name)]
+    originals = [Original(TABLE, ending_of(content), content, given.name)]
     if forms.mapping.path:
         mapping = Given(forms.mapping.path)
         originals.append(Original(MAPPING, ".ini", packed_bytes_of(mapping.path), mapping.name))
     checked_count(Rows(path, [*rows.rows], rows.lines), kind)
-    return Incoming(own, kind, rows, len(made.made), text_of_rows(made.rows), originals, made.hidden)
+    return Incoming(given, kind, rows, len(made.made), text_of_rows(made.rows), originals, made.hidden)
 
 
 def is_table(content: bytes) -> bool:
@@ -139,7 +139,7 @@ def is_table(content: bytes) -> bool:
         return True
     first = rows_of_text("", content[:FIRST_BYTES].partition(b"\n")[0].decode("utf-8-sig", "replace")).rows[:1]
     for separator in sheets.SEPARATORS:
-        fields = [own.strip().lower() for own in next(csv.reader(first, delimiter=separator), [])]
+        fields = [cell.strip().lower() for cell in next(csv.reader(first, delimiter=separator), [])]
         is_row = len(fields) > 1 and fields[0] in TAGS and fields[1][:1].isdigit()
         if is_row or not fields or fields[0] == "format":
             return False

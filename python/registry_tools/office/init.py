@@ -60,17 +60,17 @@ def init(asked: Init, by: By) -> DayText:
 
 def sync(path: Path) -> None:
     """Has a file, or the names in a folder, kept, also if the machine stops. Raises OSError."""
-    own = os.open(path, os.O_RDONLY)
+    descriptor = os.open(path, os.O_RDONLY)
     try:
-        os.fsync(own)
+        os.fsync(descriptor)
     finally:
-        os.close(own)
+        os.close(descriptor)
 
 
-def put_first(office: Office, there: HandedIn, first: DayText, path: str) -> None:
+def put_first(office: Office, handed_in: HandedIn, first: DayText, path: str) -> None:
     """Hands in a first text."""
     content = text_of_rows(first.source.rows)
-    intake.put(office, there, FIRST, content, len(first.instructions), os.path.basename(path))
+    intake.put(office, handed_in, FIRST, content, len(first.instructions), os.path.basename(path))
 
 
 def change_first(office: Office, asked: Init, by: By) -> DayText:

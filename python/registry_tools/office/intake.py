@@ -110,7 +110,7 @@ class HandedIn:
     approved: list[Approved] = field(default_factory=list)
     waiting: list[Part] = field(default_factory=list)
     # What was read before, by its sum.
-    known: dict[str, Rows] = field(default_factory=dict)
+    rows_of: dict[str, Rows] = field(default_factory=dict)
     firsts: dict[str, DayText] = field(default_factory=dict)
 
     @property
@@ -127,7 +127,7 @@ class HandedIn:
         taken = [each for each in self.taken if any(part.start <= each.place < part.end for part in parts)]
         approved = [each for each in self.approved if any(part.start == each.place for part in parts)]
         waiting = [part for part in self.waiting if part in parts]
-        return HandedIn(self.store, parts, taken, approved, waiting, self.known, self.firsts)
+        return HandedIn(self.store, parts, taken, approved, waiting, self.rows_of, self.firsts)
 
     def until(self, date: datetime.date) -> "HandedIn":
         """What comes into the text of a day: all but what was of a later day, which was undone, and what waits for
@@ -145,10 +145,10 @@ class HandedIn:
 
     def rows(self, part: Part) -> Rows:
         """The rows of a part, as they were handed in."""
-        if part.sum not in self.known:
+        if part.sum not in self.rows_of:
             text = self.store.texts.get(part.sum).decode("utf-8-sig", "surrogateescape")
-            self.known[part.sum] = rows_of_text(part.name, text)
-        return self.known[part.sum]
+            self.rows_of[part.sum] = rows_of_text(part.name, text)
+        return self.rows_of[part.sum]
 
     def items_of(self, part: Part) -> Iterator[Item]:
         """All things of a part, with the line on which each begins."""
@@ -193,9 +193,10 @@ class HandedIn:
             self.firsts[part.sum] = day_of(Rows(rows.path, [*rows.rows], rows.lines))
         return self.firsts[part.sum]
 
-    def contents(self) -> dict[str, bytes]:
-        """What counts, as one text of each kind."""
-        return {kind: text_of_rows([row for item in self.items(kind) for row in item.rows]) for kind in MERGED}
+    def merged(self) -> dict[str, Rows]:
+        """What counts, as the rows of one text of each kind."""
+        counting = {kind: [row for item in self.items(kind) for row in item.rows] for kind in MERGED}
+        return {kind: Rows(f"{kind}.csv", rows, range(1, len(rows) + 1)) for kind, rows in counting.items()}
 
 
 def begins_item(kind: str, row: str) -> bool:
@@ -225,7 +226,8 @@ def behind(store: Store, base: int) -> HandedIn:
     given = [event for event in since if event.what == HANDED]
     last = next((event for event in reversed(given) if event.kind == FIRST), None)
     parts = [part_by(store, event) for event in given if event.kind != FIRST or event is last]
-    taken = [Taken(event.at, event.who, event.start, event.why, event.login) for event in since if event.what == TAKEN]
+    gone = [event for event in since if event.what == TAKEN and not event.kind]
+    taken = [Taken(event.at, event.who, event.start, event.why, event.login) for event in gone]
     handed_in, until = HandedIn(store, parts, taken), since[-1].id if since else base
     for part in parts:
         by = approval_of(store, part, until)
@@ -238,8 +240,8 @@ def approval_of(store: Store, part: Part, until: int) -> Event | None:
     """The last approval of a part, up to an event; of what is another thing since, because some of it was taken back,
     none. (A day that is corrected is closed once more with what was approved before.)"""
     looks = store.events.looked_at.get(part.origin.id, [])
-    last = next((event for event in reversed(looks) if event.id <= until), None)
-    return last if last and last.what == APPROVED else None
+    last = next((look for look in reversed(looks) if look.id <= until), None)
+    return store.events.of_id(last.id) if last and last.what == APPROVED else None
 
 
 def part_by(store: Store, event: Event) -> Part:
@@ -247,7 +249,7 @@ def part_by(store: Store, event: Event) -> Part:
     events = store.events
     origin = events.of_id(event.origin)
     sources = []
-    for source in events.all[origin.id :]:
+    for source in events.behind(origin.id):
         if source.what != SOURCE or source.of != origin.id:
             break
         sources.append(source)
@@ -261,11 +263,11 @@ def part_by(store: Store, event: Event) -> Part:
 
 
 def put(office: Office, handed_in: HandedIn, kind: str, content: bytes, count: int, name: str,
-        originals: Iterable[Original] = (), **said: Any) -> Part:  # fmt: skip
+        originals: Iterable[Original] = (), **more: Any) -> Part:  # fmt: skip
     """Hands something in, in a change of the file, with what it was made of."""
     store = office.store
     start = 1 if kind == FIRST else handed_in.end
-    event = office.add(HANDED, kind=kind, name=name, start=start, count=count, text=store.texts.put(content), **said)
+    event = office.add(HANDED, kind=kind, name=name, start=start, count=count, text=store.texts.put(content), **more)
     for original in originals:
         text = store.texts.put(original.content)
         office.add(SOURCE, of=event.id, kind=f"{original.what}{original.ending}", name=original.name, text=text)

@@ -30,9 +30,9 @@ def keep_names(office: Office, by: By, asked: list[Label], why: str) -> Named:
     """Keeps the names that are new behind those that are there. Raises WordsFault if there is none."""
     with office.changing("label", by):
         before, at = office.names(), now()
-        new = [own._replace(at=at, who=office.who, why=why) for own in new_of(asked, before)]
+        new = [label._replace(at=at, who=office.who, why=why) for label in new_of(asked, before)]
         office.must_be_as_shown(by, named_so(new, before))
-        rows = "".join(f"{own.row()}\n" for own in new).encode("utf-8", "surrogateescape")
+        rows = "".join(f"{label.row()}\n" for label in new).encode("utf-8", "surrogateescape")
         # (ends the command if the names could not be read again)
         list(namebook.rows_in(rows_of_text(office.store.path, rows.decode("utf-8", "surrogateescape"))))
         last = office.last()
@@ -45,7 +45,7 @@ def keep_names(office: Office, by: By, asked: list[Label], why: str) -> Named:
 
 def named_so(new: list[Label], before: Labels) -> list[str]:
     """What would be named how, and was before, in lines."""
-    return [f"{own} {before.name_of(own.kind, own.number)}" for own in new]
+    return [f"{label} {before.name_of(label.kind, label.number)}" for label in new]
 
 
 # What is asked for.
@@ -53,12 +53,12 @@ def named_so(new: list[Label], before: Labels) -> list[str]:
 
 def one_name(kind: str, number: str, name: str, is_gone: bool = False) -> Label:
     """The name that words give. Raises WordsFault if it can't be one."""
-    own = Label(kind, number, namebook.tidy(name))
-    found, expected = wrong_part(own, is_gone)
+    label = Label(kind, number, namebook.tidy(name))
+    found, expected = wrong_part(label, is_gone)
     if expected:
-        where = voice.either("", "Its number: " if found == own.number else "Its name: ")
+        where = voice.either("", "Its number: " if found == label.number else "Its name: ")
         raise WordsFault(f"{where}found {shown(found)}; expected {expected}")
-    return own
+    return label
 
 
 def wrong_part(label: Label, may_lack: bool) -> tuple[str, str]:
@@ -77,7 +77,7 @@ def wrong_part(label: Label, may_lack: bool) -> tuple[str, str]:
 
 def new_of(asked: list[Label], before: Labels) -> list[Label]:
     """Those that are asked for and not named so already. Raises WordsFault if there is none."""
-    new = [own for own in asked if own.name != (before.named[own[:2]].name if own[:2] in before.named else "")]
+    new = [one for one in asked if one.name != (before.named[one[:2]].name if one[:2] in before.named else "")]
     if not new:
         raise WordsFault(SO_ALREADY)
     return new

@@ -11,7 +11,7 @@ from registry_tools.errors import Fault, LateFault, RightsFault, WordsFault, sho
 from registry_tools.office import people
 from registry_tools.office.people import People
 from registry_tools.office.settings import Settings
-from registry_tools.store.events import APPROVED, ASKED, HANDED, LABELLED, OF_DAYS, TAKEN, Event, Events
+from registry_tools.store.events import APPROVED, ASKED, HANDED, LABELLED, NO_DATE, OF_DAYS, TAKEN, Event, Events
 from registry_tools.store.file import Store
 from registry_tools.store.texts import sum_of
 from registry_tools.texts import namebook
@@ -38,10 +38,10 @@ class By:
     shown: str | None = None
 
 
-def by_of(known: People, who: str, whom: str | None = None, seen: str | None = None) -> By:
+def by_of(known_people: People, who: str, whom: str | None = None, seen: str | None = None) -> By:
     """By whom something is done, of the people that a folder knows: by the login of the process, or the one for which
     it may speak. Raises WordsFault."""
-    return By(people.login_for(known, whom), people.one_line("who", who), seen)
+    return By(people.login_for(known_people, whom), people.one_line("who", who), seen)
 
 
 @dataclass
@@ -56,7 +56,7 @@ class Office:
     who: str = ""
     late: str = CAME_LATE
     # The last day with its report, by the line of its event, if somebody has read it before: nobody changes either.
-    known: tuple[str, DayText, Report] | None = field(default=None, init=False)
+    last_read: tuple[str, DayText, Report] | None = field(default=None, init=False)
 
     @property
     def events(self) -> Events:
@@ -85,11 +85,11 @@ class Office:
 
     def text_of_names(self) -> bytes:
         """All rows by which names were given or taken away."""
-        return b"".join(self.store.texts.get(own.text) for own in self.events.all if own.what == LABELLED)
+        return b"".join(self.store.texts.get(event.text) for event in self.events.named(LABELLED))
 
-    def add(self, what: str, **said: Any) -> Event:
+    def add(self, what: str, **values: Any) -> Event:
         """Adds an event, in a change, by the login that makes it."""
-        return self.store.add(Event(what, login=self.login, who=self.who, people=self.people.sum(), **said))
+        return self.store.add(Event(what, login=self.login, who=self.who, people=self.people.sum(), **values))
 
     @contextlib.contextmanager
     def changing(self, command: str, by: By) -> Iterator[None]:
@@ -118,7 +118,7 @@ class Office:
         people.must_be_allowed(self.people, self.login, command)
         if by.seen is not None and by.seen != self.state():
             self.late = f"{CAME_LATE}: {'; '.join(self.done_since(by.seen))}"
-            if by.shown is None or by.seen not in (event.line for event in self.events.all):
+            if by.shown is None or by.seen not in self.events.lines:
                 raise LateFault(self.late)
 
     def must_be_as_shown(self, by: By, outcome: Iterable[str]) -> None:
@@ -134,10 +134,10 @@ class Office:
         """What was done behind a state of the folder that somebody has seen, in words."""
         if not STATE.fullmatch(state):
             raise WordsFault(f"{shown(state)} is no state of a folder, and nothing was done", "look once more")
-        lines = [event.line for event in self.events.all]
+        lines = self.events.lines
         if state not in lines:
             yield "it was a state of another folder, or of another history of this one"
-        for event in self.events.all[lines.index(state) + 1 :] if state in lines else ():
+        for event in self.events.behind(lines.index(state) + 1) if state in lines else ():
             if event.of is None or event.what != HANDED:
                 yield from told_of(event)
 
@@ -154,8 +154,8 @@ def told_of(event: Event) -> Iterator[str]:
     elif event.what == HANDED:
         yield "another first text stands there" if event.kind == FIRST else f"{event.name} was handed in by {event.who}"
     elif event.what == TAKEN:
-        yield f"place {event.start} was taken back by {event.who}: {event.why}"
+        yield f"{event.name or f'place {event.start}'} was taken back by {event.who}: {event.why}"
     elif event.what == ASKED:
-        yield f"{event.kind} {event.date} was asked for by {event.who}"
+        yield f"{event.name if event.date == NO_DATE else f'{event.kind} {event.date}'} was asked for by {event.who}"
     elif event.what == APPROVED:
         yield f"{event.name} was approved by {event.who}"

@@ -29,13 +29,15 @@ SECTION, FOUR_EYES, COMMANDS = "people", "four eyes", "commands"
 HAND_IN, CHANGE, CLOSE, RELEASE, LOOK, PROXY = RIGHTS = ("hand in", "change", "close", "release", "look", "proxy")
 ALL = "all"
 OF_ALL = frozenset({HAND_IN, CHANGE, CLOSE, RELEASE, LOOK})
+# The command that asks for another office.ini.
+REWRITE = "settings"
 # To whom a login is tied; and what it alone may do, and nothing else.
 HOLDER, USER, OWN = "holder", "user", "own"
 TIED = re.compile(f"({HOLDER}|{USER}) ([1-9][0-9]{{0,8}})")
 # The right that each command needs; another one that changes a folder needs that its login is named.
 RIGHT_OF = {
     "hand-in": HAND_IN, "change": CHANGE, "label": CHANGE, "init": CHANGE, "close": CLOSE,
-    "undo": CLOSE, "correct": CLOSE, "release": RELEASE, OWN: HOLDER,
+    "undo": CLOSE, "correct": CLOSE, "release": RELEASE, OWN: HOLDER, REWRITE: ALL,
 }  # fmt: skip
 # Who files or undoes a day passes on what is left there.
 PASSES = "close"
@@ -60,12 +62,14 @@ class Person:
         """Whether this person may give a command."""
         if self.tied_to(HOLDER):
             return command == OWN
+        if command == REWRITE:
+            return self.rights >= OF_ALL
         return command not in RIGHT_OF or RIGHT_OF[command] in self.rights
 
     def tied_to(self, kind: str) -> int | None:
         """The holder, or the user, to which this person is tied, if they are."""
         found = (TIED.fullmatch(right) for right in self.rights)
-        return next((int(own[2]) for own in found if own and own[1] == kind), None)
+        return next((int(tie[2]) for tie in found if tie and tie[1] == kind), None)
 
 
 @dataclass(frozen=True)
@@ -95,25 +99,29 @@ class People:
         """Whether something that came by this command counts: if who did it may give it, and who passed it on may file
         days; or if they may speak for others, who may."""
         *passed, person = login.split(SPEAKS_FOR)
-        asked = [(person, command), *((own, PASSES) for own in passed)]
-        return all(self.may(own, each) or self.may_speak(own) for own, each in asked)
+        asked = [(person, command), *((hand, PASSES) for hand in passed)]
+        return all(self.may(hand, each) or self.may_speak(hand) for hand, each in asked)
 
     def hands_of(self, login: str) -> set[str]:
         """Whose hands something has come through: who did it, and who passed it on and may not speak for others."""
         *passed, person = login.split(SPEAKS_FOR)
-        return {person, *(own for own in passed if not self.may_speak(own))}
+        return {person, *(hand for hand in passed if not self.may_speak(hand))}
 
     def others_for(self, commands: Collection[str], login: str) -> list[str]:
         """Who may approve what this login asks for; nothing, if office.ini names nobody."""
         hands = self.hands_of(login)
-        others = (own for own in self.named.values() if own.login not in hands)
-        return [str(own) for own in others if all(map(own.may, commands))]
+        others = (other for other in self.named.values() if other.login not in hands)
+        return [str(other) for other in others if all(map(other.may, commands))]
+
+    def with_all(self) -> list[str]:
+        """Who may do all."""
+        return [str(person) for person in self.named.values() if person.may(REWRITE)]
 
     def without_second(self) -> list[str]:
         """The commands that wait for another login, although office.ini names fewer than two people who may give
         them."""
-        may = {own: sum(person.may(own) for person in self.named.values()) for own in self.four_eyes}
-        return [own for own, count in may.items() if self.named and count < 2]
+        may = {command: sum(person.may(command) for person in self.named.values()) for command in self.four_eyes}
+        return [command for command, count in may.items() if self.named and count < 2]
 
     def in_words(self, login: str) -> str:
         """A login with the name of its person, if office.ini names one."""
@@ -148,17 +156,17 @@ def system_login() -> str:
 def login_for(people: People, whom: str | None) -> str:
     """The login that gives a command: that of the system, or the one for which it may speak, or whom one says that may
     speak, too."""
-    own = system_login()
+    login = system_login()
     if whom is None:
-        return own
+        return login
     *passed, person = whom.split(SPEAKS_FOR)
-    for speaker in (own, *passed):
+    for speaker in (login, *passed):
         if not people.may_speak(speaker):
             why = f"{speaker} may not speak for others: {SETTINGS} gives it no right {PROXY}"
             raise WordsFault(f"{voice.option('for', whom)}: {why}")
     if not person.strip() or not whom.isprintable():
         raise WordsFault(f"{voice.option('for', shown(whom))}: that is no login")
-    return f"{own}{SPEAKS_FOR}{whom}"
+    return f"{login}{SPEAKS_FOR}{whom}"
 
 
 def one_line(name: str, word: str) -> str:
@@ -177,7 +185,7 @@ def must_be_allowed(people: People, login: str, command: str) -> None:
         why = f"{person_of(login)} is no login that {SETTINGS} names under [{SECTION}]"
         raise RightsFault(why, ": nothing was done")
     right, others = RIGHT_OF.get(command, command), people.others_for((command,), login)
-    may = ", ".join(own for own in (*RIGHTS, *sorted(person.rights - {*RIGHTS})) if own in person.rights)
+    may = ", ".join(right for right in (*RIGHTS, *sorted(person.rights - {*RIGHTS})) if right in person.rights)
     who = f"{' or '.join(others)} may" if others else "nobody may"
     raise RightsFault(f"{person} may {may}, and not {right}: {SETTINGS} says so; {who}")
 
@@ -189,8 +197,7 @@ def read(path: Path, text: str) -> People:
     setattr(parser, "optionxform", str)
     parser.read_string(text, str(path))
     people = parser[SECTION].items() if SECTION in parser else ()
-    named = {login: person_named(path, login, words) for login, words in people}
-    return People(named, commands_in(path, parser))
+    return People({login: person_named(path, login, words) for login, words in people}, commands_in(path, parser))
 
 
 def person_named(path: Path, login: str, words: str) -> Person:
@@ -213,7 +220,7 @@ def commands_in(path: Path, parser: configparser.ConfigParser) -> tuple[str, ...
     if FOUR_EYES not in parser:
         return ()
     section = parser[FOUR_EYES]
-    words = tuple(own.strip() for own in section.get(COMMANDS, "").split(","))
+    words = tuple(word.strip() for word in section.get(COMMANDS, "").split(","))
     expected = f"{COMMANDS} = some of {', '.join(MAY_WAIT)}"
     must_be_known(path, f"[{FOUR_EYES}]", section, (COMMANDS,), expected)
     if not {*words} <= {*MAY_WAIT}:

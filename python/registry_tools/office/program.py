@@ -39,15 +39,15 @@ def must_be_ours(office: Office, name: str, named: str) -> None:
             who = others_at(step, trusted)
             if who:
                 out = f"take that right away, or {VARIABLE}={named} lets you run it"
-                expected = f"one that nobody else can change, and {step} may be written by {who}: {out}"
-                raise FileFault(office.path / SETTINGS, 0, name, named, expected)
+                expected = f"one that nobody else can change, and {step} may be written by {who}"
+                raise FileFault(office.path / SETTINGS, 0, name, named, expected, out)
 
 
 def is_let(named: str) -> bool:
     """Whether the variable lets a program be run."""
     real = os.path.realpath(shutil.which(named) or named)
-    let = (os.path.realpath(own) for own in os.environ.get(VARIABLE, "").split(os.pathsep) if own)
-    return any(real == own or real.startswith(f"{own}/") for own in let)
+    let = (os.path.realpath(path) for path in os.environ.get(VARIABLE, "").split(os.pathsep) if path)
+    return any(real == path or real.startswith(f"{path}/") for path in let)
 
 
 def way_to(path: Path) -> Iterator[str]:
@@ -88,18 +88,18 @@ def others_at(step: str, trusted: set[int]) -> str:
 
 def members_of(group: int) -> set[int]:
     """The users of a group."""
-    own = {each.pw_uid for each in pwd.getpwall() if each.pw_gid == group}
+    members = {each.pw_uid for each in pwd.getpwall() if each.pw_gid == group}
     try:
         named = grp.getgrgid(group).gr_mem
     except KeyError:
         # (nobody knows who is in a group without a name)
-        return own | {-1}
+        return members | {-1}
     for name in named:
         try:
-            own.add(pwd.getpwnam(name).pw_uid)
+            members.add(pwd.getpwnam(name).pw_uid)
         except KeyError:
-            own.add(-1)
-    return own
+            members.add(-1)
+    return members
 
 
 def group_name(group: int) -> str:

@@ -1,4 +1,5 @@
-"""The settings of a folder, office.ini: the program, what `close` makes, deadlines, keys and people."""
+"""The settings of a folder, office.ini: the program, what `close` makes, deadlines, keys and people; and what of it may
+be changed by other ways than an editor."""
 import configparser
 from dataclasses import dataclass
 from pathlib import Path
@@ -8,13 +9,19 @@ from registry_tools.calendars import deadlines
 from registry_tools.errors import FileFault, must_be_known, of_file, shown
 from registry_tools.office import people
 from registry_tools.office.people import People
-from registry_tools.texts import hooks, sender
+from registry_tools.texts import hooks, sections, sender
 
 LAYOUT, SECTION, ANCHOR, KEY = "1", "office", "anchor", "key"
 # What office.ini has: another section would be one that nobody reads.
 SECTIONS = (SECTION, deadlines.SECTION, ANCHOR, people.SECTION, people.FOUR_EYES, hooks.SECTION, sender.SECTION)
 # What it names under [office].
 NAMES = ("layout", "program", "statements", "pages", "verify", "desk", "name")
+# What an editor of the owner alone changes: where a program is that is run as the owner, and other paths. So are the
+# rights of the owner, and who may speak for others.
+FIXED = (
+    (SECTION, "layout"), (SECTION, "program"), (SECTION, "desk"), (ANCHOR, KEY), (hooks.SECTION, hooks.AFTER_CLOSE),
+)  # fmt: skip
+BY_EDITOR = "what stands there: an editor of the owner alone changes it"
 
 
 @dataclass(frozen=True)
@@ -59,18 +66,14 @@ def words_of(is_so: bool) -> str:
 def read(path: Path) -> Settings:
     """The settings of a folder. Raises FileFault if they are none."""
     try:
-        return read_text(path, opening.read(path).decode("utf-8-sig", "surrogateescape"))
+        return read_text(path, sections.letters_of(opening.read(path)))
     except OSError as error:
         raise of_file(path, f"it cannot be read: {error.strerror}") from None
 
 
 def read_text(path: Path, text: str) -> Settings:
     """The settings that a text says."""
-    parser = configparser.ConfigParser(interpolation=None)
-    try:
-        parser.read_string(text, str(path))
-    except configparser.Error as error:
-        raise of_file(path, f"these are no settings: {error}".replace("\n", " ")) from None
+    parser = sections.parsed(path, text)
     if SECTION not in parser:
         raise FileFault(path, 0, "", f"no row [{SECTION}]", f"[{SECTION}], and below it {', '.join(NAMES)}")
     section = parser[SECTION]
@@ -103,3 +106,27 @@ def is_yes(path: Path, section: configparser.SectionProxy, name: str) -> bool:
     if word not in ("yes", "no"):
         raise FileFault(path, 0, name, shown(word), "yes or no")
     return word == "yes"
+
+
+# Another text.
+
+
+def must_be_open(path: Path, old: str, text: str, owner: str) -> Settings:
+    """What another text says. Raises FileFault if it is none, or changes what an editor of the owner alone changes."""
+    sections.must_be_lines(path, text)
+    new = read_text(path, text)
+    before, after = fixed_in(path, old, owner), fixed_in(path, text, owner)
+    for field in (name for name in {**before, **after} if before.get(name, "") != after.get(name, "")):
+        # (where a program lies is nothing for a page)
+        raise FileFault(path, 0, field, shown(after.get(field, "")), BY_EDITOR)
+    return new
+
+
+def fixed_in(path: Path, text: str, owner: str) -> dict[str, str]:
+    """What of a text an editor alone changes, by its section and name."""
+    parser, named = sections.parsed(path, text), people.read(path, text).named.values()
+    found = {f"[{section}] {name}": parser.get(section, name, fallback="") for section, name in FIXED}
+    for person in named:
+        if person.login == owner or people.PROXY in person.rights:
+            found[f"[{people.SECTION}] {person.login}"] = f"{person.name}: {', '.join(sorted(person.rights))}"
+    return found

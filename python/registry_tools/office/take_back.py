@@ -55,7 +55,7 @@ def parts_of(handed_in: HandedIn, asked: TakeBack) -> Iterator[Part]:
     """The parts from which something may be taken."""
     for option, name, names in (
         ("--file", asked.file, {part.name for part in handed_in.parts}),
-        ("--handed-by", asked.handed_by, {own for part in handed_in.parts for own in (part.who, part.login) if own}),
+        ("--handed-by", asked.handed_by, {hand for part in handed_in.parts for hand in (part.who, part.login) if hand}),
     ):
         if name is not None and name not in names:
             names_told = ", ".join(map(shown, sorted(names)))

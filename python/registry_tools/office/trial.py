@@ -24,7 +24,9 @@ MOST_SHOWN = 3
 
 @dataclass
 class Looked:
-    """What would come of an instruction of the next day."""
+    """What would come of an instruction of the next day: the `outcome` is `done`, or the name of the check that refuses
+    it, and then `why` says what it found, with its figures. `words` say what is asked for, `is_new` whether the look
+    before this one had another outcome, or none."""
 
     # Where it was handed in; nothing, if it waited.
     place: int | None

@@ -50,7 +50,7 @@ def undo(office: Office, by: By, asked: Undo) -> Undone | AskedFor:
 def comes_again(office: Office) -> list[str]:
     """What is handed in and waits, in lines, behind a day that was taken back."""
     items = approvals.handed_in_of(office).items(*intake.KINDS)
-    return [*(row for item in items for row in item.rows), *(own.instruction.row for own in waits_of(office))]
+    return [*(row for item in items for row in item.rows), *(waiting.instruction.row for waiting in waits_of(office))]
 
 
 def last_of(office: Office, named: datetime.date | None) -> Event:
@@ -89,8 +89,8 @@ def taken_back(office: Office, last: Event, again: datetime.date, why: str, appr
     office.add(UNDONE, of=last.id, date=last.date, first=last.first, next=last.next, why=why, approved=approved)
     daybook.remove_day(office.store.db, last.date)
     trial.forget(office)
-    there = HandedIn(office.store)
-    intake.put_left(office, there, filed, filed.parts, again)
-    end = there.end
-    intake.put_left(office, there, since, since.parts)
+    handed_in = HandedIn(office.store)
+    intake.put_left(office, handed_in, filed, filed.parts, again)
+    end = handed_in.end
+    intake.put_left(office, handed_in, since, since.parts)
     return end

@@ -26,7 +26,7 @@ def waiting_behind(office: Office, date: datetime.date) -> list[pending.Waiting]
         path = office.store.kept(last, "waits")
     else:
         return []
-    return [own for own, _ in pending.read_pending(path).rows]
+    return [waiting for waiting, _ in pending.read_pending(path).rows]
 
 
 def waits_text(day: DayText, report: Report, file: pending.PendingFile) -> bytes:
@@ -34,7 +34,7 @@ def waits_text(day: DayText, report: Report, file: pending.PendingFile) -> bytes
     file of the day."""
     waiting = next_day.waiting_after(day, report, file, datetime.date.max, Notes())
     head = head_after(day, report)
-    for own in waiting:
-        own.due, own.entered = due_day_after(head, own.instruction), None
+    for each in waiting:
+        each.due, each.entered = due_day_after(head, each.instruction), None
     made = pending.Made(day.head.date, report.next_record)
     return pending.text_of(waiting, made).encode("utf-8", "surrogateescape")

@@ -13,7 +13,7 @@ from registry_tools.older.journal import Event
 from registry_tools.questions.seams import Found, Given, close_again
 from registry_tools.store import events
 from registry_tools.texts.day_text import DayText
-from registry_tools.texts.rows import KeptText
+from registry_tools.texts.rows import KeptText, rows_of_text
 
 # How what is found is mended.
 JOURNAL_BACK = "put the journal back from a copy: audit --anchors tells whether it is the right one"
@@ -46,7 +46,7 @@ class OlderFound(Found):
         """How a difference of a day is mended: first the journal or files, if they are not as they were filed."""
         if self.away == JOURNAL_FIRST:
             return JOURNAL_FIRST
-        before = [own for own in self.changed if own < date]
+        before = [date for date in self.changed if date < date]
         if date in self.changed or not before:
             return FILES_FIRST if date in self.changed else close_again()
         return f"mend the files of {max(before)} first, and audit again"
@@ -60,15 +60,15 @@ class OlderFound(Found):
                 self.told.add(told)
                 self.faults.append(fault)
                 if mend and PUT_BACK not in str(fault):
-                    words = "expected" if fault.expected else "found"
-                    setattr(fault, words, f"{getattr(fault, words)}; {mend}")
+                    fault.add_way(mend)
 
     def given(self, event: events.Event, day: DayText) -> Given:
         """What was handed in for a day, as its files have it."""
         old = self.filed[event.date]
-        contents = {kind: self.folder.text(old, kind) for kind in MERGED}
+        texts = {kind: self.folder.text(old, kind).decode("utf-8-sig", "surrogateescape") for kind in MERGED}
+        merged = {kind: rows_of_text(kind, text) for kind, text in texts.items()}
         count = self.folder.handed_in(old).count_of_first()
-        return Given(None if count is None else day.source.rows[: day.first_do + count], contents)
+        return Given(None if count is None else day.source.rows[: day.first_do + count], merged)
 
     def says(self) -> str:
         """What says when a day was filed, and with which records."""
@@ -76,8 +76,8 @@ class OlderFound(Found):
 
     def summary(self) -> str:
         """The last line, with the counts."""
-        there = self.folder.journal
-        counts = f"events {len(there.events)}, days {len(there.filed())}, pairs read {self.pairs}"
+        journal = self.folder.journal
+        counts = f"events {len(journal.events)}, days {len(journal.filed())}, pairs read {self.pairs}"
         return f"{self.folder.path}: {counts}: {counted(len(self.faults), 'difference', 'differences')}"
 
 
@@ -99,10 +99,10 @@ def look_at_folder(found: OlderFound) -> HandedIn | None:
         found.add(*folder.strange_days(), mend=found.away)
     found.add(*folder.changed_labels())
     with found.adding(NEXT_BACK):
-        there = folder.for_the_next_day()
-        found.add(*there.unsaid, mend=SAY_AGAIN)
-        found.add(*there.unapproved, mend=APPROVES_NOTHING)
-        return there
+        handed = folder.for_the_next_day()
+        found.add(*handed.unsaid, mend=SAY_AGAIN)
+        found.add(*handed.unapproved, mend=APPROVES_NOTHING)
+        return handed
     return None
 
 

@@ -61,10 +61,10 @@ class Folder:
         """A text of a filed day, unpacked. Those of the last two days that were asked for are kept."""
         for line in [*self.kept][: -MOST_KEPT] if event.line not in self.kept else ():
             del self.kept[line]
-        there = self.kept.setdefault(event.line, {})
-        if key not in there:
-            there[key] = bytes_of(str(self.file(event, key)))
-        return there[key]
+        texts = self.kept.setdefault(event.line, {})
+        if key not in texts:
+            texts[key] = bytes_of(str(self.file(event, key)))
+        return texts[key]
 
     def handed_in(self, event: Event) -> HandedIn:
         """What was handed in for a settled day."""
@@ -85,8 +85,8 @@ class Folder:
             yield fault
             return
         except FileFault:
-            expected = f"the files of a day, as {self.journal.path} says: put the folder back, from a copy"
-            yield FileFault(folder, 0, "", "no folder", expected)
+            expected, way = f"the files of a day, as {self.journal.path} says", "put the folder back, from a copy"
+            yield FileFault(folder, 0, "", "no folder", expected, way)
             return
         yield from filter(None, (self.changed_file(event, key) for key in FILES))
 
@@ -95,21 +95,21 @@ class Folder:
         path, filed = self.file(event, key), event.sums.get(key)
         back = f"{PUT_BACK}: {voice.command('mend', event.date)} may make it again, or a copy has it"
         try:
-            there = sum_of(bytes_in(path))
+            found = sum_of(bytes_in(path))
         except FileFault as fault:
-            return of_file(path, f"{fault.found}; {back}")
-        expected = f"{filed}, as {self.journal.path} says: somebody changed it; {back}"
-        return None if there == filed else FileFault(path, 0, "SHA-256", there, expected)
+            return of_file(path, str(fault.found), back, "; ")
+        expected = f"{filed}, as {self.journal.path} says: somebody changed it"
+        return None if found == filed else FileFault(path, 0, "SHA-256", found, expected, back, "; ")
 
     def strange_files(self, event: Event) -> Iterator[FileFault]:
         """What lies among the files of a day and is none of them."""
         folder = self.day_folder(event.date)
-        tables = {own.file for own in self.sources_of(event)}
-        known = {*PAPERS, *FILES.values(), *([TABLES] if tables else [])}
-        there = [path for path in (paths_in(folder) if folder.is_dir() else ()) if path.name not in known]
+        tables = {source.file for source in self.sources_of(event)}
+        names = {*PAPERS, *FILES.values(), *([TABLES] if tables else [])}
+        strange = [path for path in (paths_in(folder) if folder.is_dir() else ()) if path.name not in names]
         if tables and (folder / TABLES).is_dir():
-            there += [path for path in paths_in(folder / TABLES) if path.name not in tables]
-        for path in there:
+            strange += [path for path in paths_in(folder / TABLES) if path.name not in tables]
+        for path in strange:
             yield FileFault(path, 0, "", "a file that does not belong here", "no such file")
 
     def sources_of(self, event: Event) -> list[Source]:
@@ -121,7 +121,8 @@ class Folder:
     def changed_tables(self, event: Event) -> Iterator[FileFault]:
         """The tables of a day that are not as they were handed in."""
         place = self.day_folder(event.date) / TABLES
-        yield from filter(None, (intake.changed_source(place / own.file, own) for own in self.sources_of(event)))
+        sources = self.sources_of(event)
+        yield from filter(None, (intake.changed_source(place / source.file, source) for source in sources))
 
     def labels(self) -> bytes:
         """The file of names; nothing, if it is not there."""
@@ -131,14 +132,14 @@ class Folder:
     def changed_labels(self) -> Iterator[FileFault]:
         """Whether the file of names is another one than that of the last line of the journal that has its sum."""
         last = next((event for event in reversed(self.journal.events) if event.event != journal.UNDONE), None)
-        there = sum_of(self.labels()) if (self.path / LABELS).exists() else ""
-        if last and last.labels and there != last.labels:
+        found = sum_of(self.labels()) if (self.path / LABELS).exists() else ""
+        if last and last.labels and found != last.labels:
             is_labelled = any(event.event == journal.LABELLED for event in self.journal.events)
             by_hand = voice.command("label", "--by-hand", "--why", "WORDS")
             keeps = by_hand if is_labelled else "the next close or release"
             meant = f"if names were meant to change, {keeps} keeps the new ones"
             expected = f"{last.labels}, as {self.journal.path} says of {last.date}: {meant}"
-            yield FileFault(self.path / LABELS, 0, "SHA-256", there or "no file", expected)
+            yield FileFault(self.path / LABELS, 0, "SHA-256", found or "no file", expected)
 
     def strange_days(self) -> Iterator[FileFault]:
         """What lies among the days, and is none."""
@@ -162,7 +163,7 @@ def alone(path: Path) -> Iterator[None]:
     for name in LEFT:
         if os.path.lexists(path / name):
             way = f"{voice.command('status')} of version 1.1 puts it right: upgrade behind it"
-            raise FileFault(path / name, 0, "", "what an interrupted command left", f"no such thing: {way}")
+            raise FileFault(path / name, 0, "", "what an interrupted command left", "no such thing", way)
     file = opening.open_file(path / LOCK, os.O_RDONLY) if (path / LOCK).exists() else None
     try:
         if file is not None:
@@ -170,7 +171,7 @@ def alone(path: Path) -> Iterator[None]:
                 with opening.telling_of_locks(path / LOCK):
                     fcntl.flock(file, fcntl.LOCK_EX | fcntl.LOCK_NB)
             except BlockingIOError:
-                raise of_file(path, "a command of version 1.1 works on it just now: upgrade behind it") from None
+                raise of_file(path, "a command of version 1.1 works on it just now", "upgrade behind it") from None
         yield
     finally:
         if file is not None:

@@ -59,9 +59,9 @@ def opened(path: Path) -> sqlite3.Connection:
 
 def rows_unlike(old: sqlite3.Connection, new: sqlite3.Connection, path: Path, table: str) -> Iterator[FileFault]:
     """In what the index has other rows of a table."""
-    there, made = ({*db.execute(f"SELECT * FROM {table}")} for db in (old, new))
-    strange, lacking = sorted(there - made, key=repr), sorted(made - there, key=repr)
+    kept, made = ({*db.execute(f"SELECT * FROM {table}")} for db in (old, new))
+    strange, lacking = sorted(kept - made, key=repr), sorted(made - kept, key=repr)
     if strange or lacking:
-        found, row = (shown(", ".join(map(str, own[0]))) if own else "no such row" for own in (strange, lacking))
+        found, row = (shown(", ".join(map(str, rows[0]))) if rows else "no such row" for rows in (strange, lacking))
         mend = f"{row}, as the files of the days have it: take {path} away, and it is made anew"
         yield FileFault(path, 0, table, found, mend)

@@ -107,7 +107,7 @@ class Asked(NamedTuple):
     @property
     def sum(self) -> str:
         """The sum of what is asked for, whoever asks and whenever."""
-        return sum_of(csv_row([own for own in self[3:] if own is not None]).encode("utf-8", "surrogateescape"))
+        return sum_of(csv_row([cell for cell in self[3:] if cell is not None]).encode("utf-8", "surrogateescape"))
 
 
 class Approval(NamedTuple):
@@ -141,7 +141,7 @@ class HandedIn:
 
     def sources(self) -> Iterator[Source]:
         """What the rows of tables were made of."""
-        return (own for part in self.parts for own in part.sources)
+        return (source for part in self.parts for source in part.sources)
 
     def left_of(self, part: Part) -> list[int]:
         """The places of a file that were not taken back."""
@@ -178,29 +178,29 @@ def read_journal(path: Path) -> HandedIn:
 
 def added(handed: HandedIn | None, path: Path, fields: list[str]) -> HandedIn:
     """What is handed in with one more row. Raises ValueError, IndexError or TypeError if it is none."""
-    tag, *own = fields
+    tag, *values = fields
     if handed is None:
-        (base,) = own
+        (base,) = values
         if tag != "base":
             raise ValueError(tag)
         return HandedIn(path.parent, base)
     if tag == "handed":
-        at, who, kind, start, count, day, file, checksum, name, *login = own
+        at, who, kind, start, count, day, file, checksum, name, *login = values
         if kind not in KINDS or not FILE.fullmatch(file):
             raise ValueError(kind)
         date = datetime.date.fromisoformat(day) if day else None
         (by,) = login or [""]
         handed.parts.append(Part(at, who, kind, int(start), int(count), date, file, checksum, name, by))
     elif tag == "taken":
-        at, who, place, why, *login = own
+        at, who, place, why, *login = values
         handed.taken.append(Taken(at, who, int(place), why, *login))
     elif tag == "of":
-        file, source, checksum, name = own
+        file, source, checksum, name = values
         if not handed.parts or file != handed.parts[-1].file or not SOURCE.fullmatch(source):
             raise ValueError(file)
         handed.parts[-1].sources.append(Source(source, checksum, name))
     elif tag == "approved":
-        at, who, place, by = own
+        at, who, place, by = values
         handed.approved.append(Approved(at, who, int(place), by))
     else:
         raise ValueError(tag)
@@ -216,11 +216,11 @@ def rows_of_journal(path: Path, content: bytes) -> Iterator[tuple[int, list[str]
         raise FileFault(path, reader.line_num, "row", str(error), "a row of csv") from None
 
 
-def changed_source(path: Path, own: Source) -> FileFault | None:
+def changed_source(path: Path, source: Source) -> FileFault | None:
     """Whether a source is not as it was handed in."""
-    back = f"{own.name}, as it was handed in: whoever handed it in may have it; its rows stand beside it"
+    back = f"{source.name}, as it was handed in: whoever handed it in may have it; its rows stand beside it"
     try:
-        there = sum_of(bytes_in(path))
+        found = sum_of(bytes_in(path))
     except FileFault as fault:
         return FileFault(path, 0, "", str(fault.found), back)
-    return None if there == own.sum else FileFault(path, 0, "SHA-256", there, f"{own.sum}, that of {back}")
+    return None if found == source.sum else FileFault(path, 0, "SHA-256", found, f"{source.sum}, that of {back}")

@@ -74,8 +74,8 @@ class Event:
     @functools.cached_property
     def body(self) -> str:
         """All of its line but the last field."""
-        said = {**dict.fromkeys(FILES, ""), **self.sums, **vars(self)}
-        return csv_row([str(said[name]) for name in self.columns[:-1]])
+        values = {**dict.fromkeys(FILES, ""), **self.sums, **vars(self)}
+        return csv_row([str(values[name]) for name in self.columns[:-1]])
 
     @functools.cached_property
     def line(self) -> str:
@@ -167,13 +167,14 @@ def event_of(line: str, columns: tuple[str, ...]) -> Event | str:
         fields = []
     if len(fields) != len(columns):
         return f"{len(columns)} fields: {','.join(columns)}"
-    said = dict(zip(columns, fields))
+    values = dict(zip(columns, fields))
     try:
         event = Event(
-            said["event"], said["at"], said["who"], datetime.date.fromisoformat(said["date"]), int(said["first"]),
-            int(said["next"]), {file: said[file] for file in FILES if said[file]}, said["why"], said["before"],
-            said.get("labels", ""), said.get("engine", ""), said.get("login", ""), said.get("approved", ""),
-            said.get("people", ""), columns,
+            values["event"], values["at"], values["who"], datetime.date.fromisoformat(values["date"]),
+            int(values["first"]), int(values["next"]), {file: values[file] for file in FILES if values[file]},
+            values["why"], values["before"],
+            values.get("labels", ""), values.get("engine", ""), values.get("login", ""), values.get("approved", ""),
+            values.get("people", ""), columns,
         )  # fmt: skip
     except ValueError:
         return f"a date and two numbers: {','.join(columns)}"

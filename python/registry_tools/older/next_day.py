@@ -39,8 +39,8 @@ def read_next(folder: Path, journal: Journal, named: People) -> HandedIn:
         count = sum(1 for _ in items_in(part.kind, folder / part.file, content))
         if count != part.count:
             raise FileFault(path, 0, "COUNT", f"{part.count} for {part.file}", f"{count}: so many stand in it")
-    for own in handed.sources():
-        fault = changed_source(folder / own.file, own)
+    for source in handed.sources():
+        fault = changed_source(folder / source.file, source)
         if fault:
             raise fault
     must_be_of_commands(handed)
@@ -53,11 +53,11 @@ def read_next(folder: Path, journal: Journal, named: People) -> HandedIn:
 
 def must_be_of_commands(handed: HandedIn) -> None:
     """Ends the command if a file lies here that no command has made."""
-    named = {NAME, LOOKED, WAITS, *(part.file for part in handed.parts), *(own.file for own in handed.sources())}
+    named = {NAME, LOOKED, WAITS, *(part.file for part in handed.parts), *(source.file for source in handed.sources())}
     for path in paths_in(handed.folder):
         if path.name not in named and not OF_APPROVALS.fullmatch(path.name) and not OWN_FILE.fullmatch(path.name):
-            expected = f"no such file: move it to another folder, and {voice.command('hand-in')} takes it from there"
-            raise FileFault(path, 0, "", "a file that nobody handed in", expected)
+            way = f"move it to another folder, and {voice.command('hand-in')} takes it from there"
+            raise FileFault(path, 0, "", "a file that nobody handed in", "no such file", way)
 
 
 def name_said(login: str) -> str:
@@ -68,20 +68,20 @@ def name_said(login: str) -> str:
 def believe(handed: HandedIn, path: Path) -> None:
     """Forgets each login that no file of its own says, and notes these. (The last commits before the file was there had
     logins say it.)"""
-    if not any(SAID.fullmatch(own.name) for own in paths_in(handed.folder)):
+    if not any(SAID.fullmatch(file.name) for file in paths_in(handed.folder)):
         return
-    there = rows_said(handed)
+    rows = rows_said(handed)
     for part in handed.parts:
-        part.login = believed(handed, path, part.row(), part.login, there)
+        part.login = believed(handed, path, part.row(), part.login, rows)
     handed.taken = [
-        own._replace(login=believed(handed, path, own.row(), own.login, there)) for own in handed.taken
+        taken._replace(login=believed(handed, path, taken.row(), taken.login, rows)) for taken in handed.taken
     ]
 
 
-def believed(handed: HandedIn, path: Path, row: str, login: str, there: set[tuple[str, str]]) -> str:
+def believed(handed: HandedIn, path: Path, row: str, login: str, rows: set[tuple[str, str]]) -> str:
     """A login, if a file of its own says the row."""
     owner = people.owner_of(login)
-    if not owner or (row, owner) in there:
+    if not owner or (row, owner) in rows:
         return login
     expected = f"one that says the same in its own file, {name_said(owner)}: nobody knows who did it"
     handed.unsaid.append(FileFault(path, 0, "LOGIN", shown(login), expected))
@@ -142,14 +142,14 @@ def read_approvals(handed: HandedIn, journal: Journal, named: People) -> None:
 
 def must_be_its_own(path: Path, approval: Approval, owner: str, named: People) -> None:
     """Ends the command if an approval is not a file of the login that it names, or of another name."""
-    own = people.owner_of(approval.login)
-    if owner != own:
+    owner_of_login = people.owner_of(approval.login)
+    if owner != owner_of_login:
         found = f"an approval of {people.person_of(approval.login)} that {owner} has written"
-        raise FileFault(path, 0, "LOGIN", found, f"a file of {own}: nobody approves for somebody else")
-    if own != approval.login and not named.may_speak(own):
-        raise FileFault(path, 0, "LOGIN", shown(approval.login), f"a login: {own} has no right {PROXY}")
-    mine = sum_of(approval.login.encode("utf-8", "surrogateescape"))[:NAME_DIGITS]
-    if path.name != f"approved-{approval.sum[:NAME_DIGITS]}-{mine}.csv":
+        raise FileFault(path, 0, "LOGIN", found, f"a file of {owner_of_login}: nobody approves for somebody else")
+    if owner_of_login != approval.login and not named.may_speak(owner_of_login):
+        raise FileFault(path, 0, "LOGIN", shown(approval.login), f"a login: {owner_of_login} has no right {PROXY}")
+    digits = sum_of(approval.login.encode("utf-8", "surrogateescape"))[:NAME_DIGITS]
+    if path.name != f"approved-{approval.sum[:NAME_DIGITS]}-{digits}.csv":
         raise FileFault(path, 0, "SUM", shown(approval.sum), "the sum of the name of the file")
 
 
@@ -157,6 +157,6 @@ def sum_of_part(handed: HandedIn, part: Part) -> str:
     """The sum by which a file that was handed in was approved."""
     items = [*items_in(part.kind, handed.folder / part.file, bytes_in(handed.folder / part.file))]
     left = {*handed.left_of(part)}
-    rows = [row for place, own in enumerate(items, part.start) if place in left for row in own]
-    said = [handed.base, part.kind, part.at, part.who, part.login, str(part.start), part.name, *rows]
-    return sum_of(csv_row(said).encode("utf-8", "surrogateescape"))
+    rows = [row for place, item in enumerate(items, part.start) if place in left for row in item]
+    cells = [handed.base, part.kind, part.at, part.who, part.login, str(part.start), part.name, *rows]
+    return sum_of(csv_row(cells).encode("utf-8", "surrogateescape"))

@@ -65,8 +65,8 @@ def upgrade(path: Path, login: str, who: str) -> Upgraded:
             raise UnwrittenFault(place, 0, "", fault.found, "") from None
         except Faulty:
             return Upgraded(faults=[*map(str, making.found.faults), making.found.summary()])
-        there, old = making.store.events, folder.journal.last_line[: events.HEAD_DIGITS]
-        return Upgraded(len(there.of_days()), len(there.days), old, there.head)
+        made, old = making.store.events, folder.journal.last_line[: events.HEAD_DIGITS]
+        return Upgraded(len(made.named(*events.OF_DAYS)), len(made.days), old, made.head)
 
 
 class Faulty(Exception):
@@ -95,7 +95,7 @@ class Making:
 
     def make(self) -> None:
         """Looks at the folder, and makes all."""
-        there = faults.look_at_folder(self.found)
+        handed = faults.look_at_folder(self.found)
         old = self.folder.journal
         text = self.store.texts.put(old.text.encode("utf-8", "surrogateescape"))
         self.add(Event(UPGRADED, login=self.login, who=self.who, count=len(old.events), text=text))
@@ -107,9 +107,9 @@ class Making:
             self.add_event(event, names.get(event.line, b""))
         if names.get("", b""):
             self.add(Event(LABELLED, login=self.login, who=self.who, text=self.store.texts.put(names[""])))
-        if there:
-            self.add_handed(there, self.folder.next_folder, self.folder.next_folder)
-            self.add_asked(there)
+        if handed:
+            self.add_handed(handed, self.folder.next_folder, self.folder.next_folder)
+            self.add_asked(handed)
         if not self.found.faults:
             self.found.add(*index.differences_from(self.folder, self.store.db))
 
@@ -122,37 +122,38 @@ class Making:
     def add_event(self, old: journal.Event, names: bytes) -> None:
         """Adds the event of a line of the journal. Of a day that was taken back, version 1.1 kept no texts."""
         by = Event(old.event, old.at, old.login, old.who, old.why, people=old.people, date=old.date)
-        own = replace(by, first=old.first, next=old.next, approved=old.approved)
+        event = replace(by, first=old.first, next=old.next, approved=old.approved)
         if old.event == journal.FILED:
-            own = self.filed(old, own) if self.found.filed.get(old.date) is old else self.add(with_engine(own, old))
+            is_last = self.found.filed.get(old.date) is old
+            event = self.filed(old, event) if is_last else self.add(with_engine(event, old))
         elif old.event == journal.LABELLED:
-            own = self.add(replace(by, text=self.store.texts.put(names)))
+            event = self.add(replace(by, text=self.store.texts.put(names)))
         else:
             days = self.store.events.days
             of = next((day for day in reversed(days) if day.date == old.date), None)
-            own = self.add(with_day(own, of))
-        self.made[old.line] = own
+            event = self.add(with_day(event, of))
+        self.made[old.line] = event
 
-    def filed(self, old: journal.Event, own: Event) -> Event:
+    def filed(self, old: journal.Event, new: Event) -> Event:
         """Adds what was handed in for a day, and the event that files it, with its texts; and looks whether the day is
         what it has to be. One reading of each text serves all."""
         place, before = self.folder.day_folder(old.date), self.before
         self.before = None
         if not place.is_dir():
             # (it was told with the files)
-            return self.add(with_engine(own, old))
+            return self.add(with_engine(new, old))
         mend = self.found.mending(old.date)
         texts: dict[str, str] = {}
         with self.found.adding(mend):
             texts = self.texts_of(old)
         with self.found.adding(mend):
-            self.before = look_at_day(self.found, own, before, by_program=False, by_second=False)
+            self.before = look_at_day(self.found, new, before, by_program=False, by_second=False)
         if self.before:
             with self.found.adding(mend):
                 texts["waits"] = self.waits(old, self.before)
         with self.found.adding(mend):
             self.add_handed(self.folder.handed_in(old), place / TABLES, place, old)
-        event = self.add(with_engine(own, old, **texts))
+        event = self.add(with_engine(new, old, **texts))
         if self.before and not self.found.faults:
             self.add_day(event, self.before, before)
         return event
@@ -179,10 +180,10 @@ class Making:
         if not is_plain(packed, content):
             return self.store.texts.put(content)
         again = ZLIB_HEAD + packed[GZIP_HEAD:-GZIP_TAIL] + zlib.adler32(content).to_bytes(4, "big")
-        own = sum_of(content)
+        digest = sum_of(content)
         statement = "INSERT INTO texts VALUES (?, ?, ?) ON CONFLICT DO NOTHING"
-        self.store.db.execute(statement, (own, len(content), again))
-        return own
+        self.store.db.execute(statement, (digest, len(content), again))
+        return digest
 
     def add_day(self, event: Event, read: Filed, before: Filed | None) -> None:
         """Puts a day into the tables of questions."""
@@ -191,31 +192,31 @@ class Making:
 
     # What was handed in.
 
-    def add_handed(self, there: HandedIn, tables: Path, place: Path, old: journal.Event | None = None) -> None:
+    def add_handed(self, handed: HandedIn, tables: Path, place: Path, old: journal.Event | None = None) -> None:
         """Adds what was handed in for a day, which `old` filed, or for the next one: its files and its tables lie in
         these folders. Of what was taken back before a day was filed, version 1.1 kept no rows."""
         made: dict[int, Event] = {}
         rows = {kind: self.items(kind, place, old) for kind in KINDS if old is not None and kind != FIRST}
-        for part in there.parts:
-            text = self.text_of_part(there, part, place, rows, old)
+        for part in handed.parts:
+            text = self.text_of_part(handed, part, place, rows, old)
             by = Event(HANDED, part.at, part.login, part.who, name=part.name, date=part.earliest or NO_DATE)
             kept = self.store.texts.put(text)
-            own = self.add(replace(by, kind=part.kind, start=part.start, count=part.count, text=kept))
-            made |= dict.fromkeys(range(part.start, part.start + part.count), own)
+            event = self.add(replace(by, kind=part.kind, start=part.start, count=part.count, text=kept))
+            made |= dict.fromkeys(range(part.start, part.start + part.count), event)
             for source in part.sources:
                 kept, kind = self.store.texts.put(bytes_in(tables / source.file)), source.file.partition("-")[2]
                 self.add(Event(
-                    SOURCE, part.at, part.login, part.who, of=own.id, kind=kind, name=source.name, text=kept,
+                    SOURCE, part.at, part.login, part.who, of=event.id, kind=kind, name=source.name, text=kept,
                 ))  # fmt: skip
-        for taken in there.taken:
+        for taken in handed.taken:
             of = made[taken.place].id if taken.place in made else None
             self.add(Event(TAKEN, taken.at, taken.login, taken.who, taken.why, of=of, start=taken.place))
-        for second in there.approved if old is not None else ():
+        for second in handed.approved if old is not None else ():
             if second.place in made:
                 where = todays.places(second.place, second.place + made[second.place].count)
                 self.add(Event(APPROVED, second.at, second.login, second.who, of=made[second.place].id, name=where))
         if old is None:
-            self.add_approvals(there, made)
+            self.add_approvals(handed, made)
 
     def items(self, kind: str, place: Path, old: journal.Event | None) -> Iterator[list[str]]:
         """The things of a kind that a settled day has, one after another."""
@@ -223,7 +224,7 @@ class Making:
         return intake.items_in(kind, place / journal.FILES[kind], self.folder.text(old, kind))
 
     def text_of_part(
-        self, there: HandedIn, part: Part, place: Path, rows: dict[str, Iterator[list[str]]], old: journal.Event | None
+        self, handed: HandedIn, part: Part, place: Path, rows: dict[str, Iterator[list[str]]], old: journal.Event | None
     ) -> bytes:
         """What was handed in together, as far as it is there."""
         if old is None:
@@ -233,7 +234,7 @@ class Making:
             source = rows_of_text("", self.folder.text(old, "day").decode("utf-8", "surrogateescape"))
             first = next(at for at, row in enumerate(source.rows) if row == "end" or row.startswith("do,"))
             return text_of_rows([*source.rows[: first + part.count], "end"])
-        left = [next(rows[part.kind], None) for _ in there.left_of(part)]
+        left = [next(rows[part.kind], None) for _ in handed.left_of(part)]
         if None in left:
             path = place / journal.FILES[part.kind]
             raise FileFault(path, 0, "", "fewer rows than were handed in", "all of them: it was changed")
@@ -241,29 +242,29 @@ class Making:
 
     # Four eyes.
 
-    def add_approvals(self, there: HandedIn, made: dict[int, Event]) -> None:
+    def add_approvals(self, handed: HandedIn, made: dict[int, Event]) -> None:
         """Adds who approved what is handed in for the next day, as far as it is what was approved."""
         today = todays.for_the_next_day(self.store)
         by_start = {part.start: part for part in today.parts}
-        for part in there.parts:
-            asked, own = next_day.sum_of_part(there, part), by_start[part.start]
-            for by in there.approvals:
+        for part in handed.parts:
+            asked, new_part = next_day.sum_of_part(handed, part), by_start[part.start]
+            for by in handed.approvals:
                 if by.sum == asked:
-                    sum_of_today = approvals.sum_of_part(today, own)
-                    self.add(Event(APPROVED, by.at, by.login, by.who, of=own.event.id, name=by.what, sum=sum_of_today))
+                    of, digest = new_part.event.id, approvals.sum_of_part(today, new_part)
+                    self.add(Event(APPROVED, by.at, by.login, by.who, of=of, name=by.what, sum=digest))
 
-    def add_asked(self, there: HandedIn) -> None:
+    def add_asked(self, handed: HandedIn) -> None:
         """Adds what was asked for, and who approved it."""
-        for asked in there.asked:
+        for asked in handed.asked:
             result = self.made[asked.result].line if asked.result in self.made else asked.result
-            own = self.add(Event(
+            event = self.add(Event(
                 ASKED, asked.at, asked.login, asked.who, date=datetime.date.fromisoformat(asked.date),
                 kind=asked.command, name=asked.words, sum=result, beside=asked.beside or "",
             ))  # fmt: skip
-            today = approvals.Asked(own, self.store.events.state)
-            for by in there.approvals:
+            today = approvals.Asked(event, self.store.events.state)
+            for by in handed.approvals:
                 if by.sum == asked.sum:
-                    self.add(Event(APPROVED, by.at, by.login, by.who, of=own.id, name=by.what, sum=today.sum))
+                    self.add(Event(APPROVED, by.at, by.login, by.who, of=event.id, name=by.what, sum=today.sum))
 
 
 def is_plain(packed: bytes, content: bytes) -> bool:
@@ -272,11 +273,11 @@ def is_plain(packed: bytes, content: bytes) -> bool:
     return is_one and packed[-4:] == (len(content) & 0xFFFFFFFF).to_bytes(4, "little")
 
 
-def with_engine(own: Event, old: journal.Event, **texts: str) -> Event:
+def with_engine(event: Event, old: journal.Event, **texts: str) -> Event:
     """An event that files a day, with what settled it and its texts."""
-    return replace(own, engine=old.engine, **texts)
+    return replace(event, engine=old.engine, **texts)
 
 
-def with_day(own: Event, day: Event | None) -> Event:
+def with_day(event: Event, day: Event | None) -> Event:
     """An event that speaks of a day which was filed."""
-    return replace(own, of=day.id if day else None)
+    return replace(event, of=day.id if day else None)

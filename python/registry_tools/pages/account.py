@@ -64,7 +64,7 @@ def history_parts(statement: Statement) -> Iterator[Markup]:
     for kind in KINDS:
         if any(held[kind] for _, held in balances):
             yield figure(f"{kind.capitalize()} allowances after each day", chart(kind, balances))
-    changed = [own for own, before in zip(balances, [None, *balances]) if before is None or own[1] != before[1]]
+    changed = [after for after, before in zip(balances, [None, *balances]) if before is None or after[1] != before[1]]
     rows = [(date, *(grouped(held[kind]) for kind in KINDS)) for date, held in changed]
     yield BALANCES.of("The balance after each day that changed it", rows)
     if len(changed) < len(balances):
@@ -118,7 +118,7 @@ def retired_parts(settled: Settled, account: rules.Account, statement: Statement
     if not account.rows:
         return
     yield heading("Surrenders and deletions")
-    own = RETIRED if len(settled.head.periods) == 1 else RETIRED_FOR_PERIODS
+    plain = RETIRED if len(settled.head.periods) == 1 else RETIRED_FOR_PERIODS
     rows = (
         (
             number, row.date, row.what, row.kind, grouped(row.amount), "reversed" if row.is_reversed else "no",
@@ -127,7 +127,7 @@ def retired_parts(settled: Settled, account: rules.Account, statement: Statement
         for number, row in account.rows.items()
     )  # fmt: skip
     told = "All surrenders and deletions of the account"
-    yield statement.table(own, told, [row[: len(own.columns)] for row in rows])
+    yield statement.table(plain, told, [row[: len(plain.columns)] for row in rows])
 
 
 def users_parts(account: rules.Account, statement: Statement) -> Iterator[Markup]:

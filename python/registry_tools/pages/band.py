@@ -74,7 +74,7 @@ class Band:
         self.first, self.columns = columns.start, len(columns)
         self.rows = len(self.row_names) or 1 + max(box.row for box in boxes.values())
         reaching = {place: arrow for place, arrow in enumerate(arrows) if arrow.head in boxes}
-        self.own = {place: arrow for place, arrow in reaching.items() if arrow.tail in boxes}
+        self.whole = {place: arrow for place, arrow in reaching.items() if arrow.tail in boxes}
         self.short = {place: arrow for place, arrow in reaching.items() if arrow.tail not in boxes}
         self.set_ports()
         self.set_streets()
@@ -89,10 +89,10 @@ class Band:
         """Numbers the arrows at each box: those that leave it, and those that reach it."""
         self.port_out, self.port_in = dict[int, int](), dict[int, int]()
         out, into = Counter[int](), Counter[int]()
-        for place, arrow in sorted({**self.own, **self.short}.items()):
+        for place, arrow in sorted({**self.whole, **self.short}.items()):
             self.port_in[place] = into[arrow.head]
             into[arrow.head] += 1
-        for place, arrow in sorted(self.own.items()):
+        for place, arrow in sorted(self.whole.items()):
             self.port_out[place] = out[arrow.tail]
             out[arrow.tail] += 1
         self.ports = {key: max(out[key], into[key]) for key in self.boxes}
@@ -101,7 +101,7 @@ class Band:
         """Chooses the street of each arrow that passes a column, and its track there."""
         spans: defaultdict[int, dict[int, tuple[float, float]]] = defaultdict(dict)
         self.street: dict[int, int] = {}
-        for place, arrow in self.own.items():
+        for place, arrow in self.whole.items():
             left, right = self.column(arrow.tail) + 1, self.column(arrow.head)
             if left < right:
                 row, to = self.boxes[arrow.tail].row, self.boxes[arrow.head].row
@@ -110,8 +110,8 @@ class Band:
                 spans[street][place] = (left, right)
         self.street_track: dict[int, int] = {}
         self.street_tracks: Counter[int] = Counter()
-        for street, own in spans.items():
-            track_of, self.street_tracks[street] = tracks(own)
+        for street, in_street in spans.items():
+            track_of, self.street_tracks[street] = tracks(in_street)
             self.street_track.update(track_of)
 
     def set_rows(self) -> None:
@@ -123,9 +123,9 @@ class Band:
             name = CAPTION if self.row_names and row < self.rows else 0
             y += name + STREET + TRACK * self.street_tracks[row]
             if row < self.rows:
-                own = [key for key, box in self.boxes.items() if box.row == row]
-                lines = max((len(self.boxes[key].lines) for key in own), default=3)
-                ports = max((self.ports[key] for key in own), default=0)
+                in_row = [key for key, box in self.boxes.items() if box.row == row]
+                lines = max((len(self.boxes[key].lines) for key in in_row), default=3)
+                ports = max((self.ports[key] for key in in_row), default=0)
                 self.tops.append(y)
                 self.heights.append(max(2 * PADDING + LINE * lines, FIRST_IN + PORT * ports + 2))
                 y += self.heights[-1] + (UNDER if self.row_names else 0)
@@ -157,7 +157,7 @@ class Band:
         heads."""
         spans: defaultdict[int, dict[End, tuple[float, float]]] = defaultdict(dict)
         labels: Counter[int] = Counter()
-        for place, arrow in self.own.items():
+        for place, arrow in self.whole.items():
             left, right = self.column(arrow.tail) + 1, self.column(arrow.head)
             start, end = self.y_out(place, arrow), self.y_in(place, arrow)
             if left == right and start != end:
@@ -196,28 +196,28 @@ class Band:
             way += f"V{shifted(self.y_street(place))}H{shifted(self.track_of[place, 'in'])}"
         return f"{way}V{shifted(self.y_in(place, arrow))}H{shifted(self.starts[self.column(arrow.head)])}"
 
-    def arrow(self, place: int, own: Arrow, way: str) -> str:
+    def arrow(self, place: int, edge: Arrow, way: str) -> str:
         """An arrow on its way, with its label."""
-        x, y = self.starts[self.column(own.head)], self.y_in(place, own)
+        x, y = self.starts[self.column(edge.head)], self.y_in(place, edge)
         head = f'<path class="head" d="M{shifted(x)},{shifted(y)}l-6,-3v6z"/>'
         place_of_label = f'x="{shifted(x - 8)}" y="{shifted(y - 3)}"'
-        label = f'<text class="small" {place_of_label} text-anchor="end">{markup(own.label)}</text>'
-        return f'<g><title>{markup(own.note)}</title><path class="arrow" d="{way}"/>{head}{label}</g>'
+        label = f'<text class="small" {place_of_label} text-anchor="end">{markup(edge.label)}</text>'
+        return f'<g><title>{markup(edge.note)}</title><path class="arrow" d="{way}"/>{head}{label}</g>'
 
     def short_way(self, place: int, arrow: Arrow) -> str:
         """The way of an arrow from a box that is not in the band."""
         x = self.starts[self.column(arrow.head)]
         return f"M{shifted(x - 10 - LETTER * len(arrow.label))},{shifted(self.y_in(place, arrow))}H{shifted(x)}"
 
-    def box(self, own: Box) -> str:
+    def box(self, box: Box) -> str:
         """A box with its lines."""
-        x, y = self.starts[own.column - self.first], self.tops[own.row]
-        height = self.heights[own.row]
+        x, y = self.starts[box.column - self.first], self.tops[box.row]
+        height = self.heights[box.row]
         middle, top = x + BOX_WIDTH / 2, y + PADDING + 10
-        drawn = (line_of(text, middle, top + LINE * place, not place) for place, text in enumerate(own.lines))
+        drawn = (line_of(text, middle, top + LINE * place, not place) for place, text in enumerate(box.lines))
         frame = f'<rect class="box" x="{shifted(x)}" y="{shifted(y)}" width="{BOX_WIDTH}" height="{height}" rx="3"/>'
-        kind = ' class="refused"' if own.is_refused else ""
-        return f"<g{kind}><title>{markup(own.note)}</title>{frame}{''.join(drawn)}</g>"
+        kind = ' class="refused"' if box.is_refused else ""
+        return f"<g{kind}><title>{markup(box.note)}</title>{frame}{''.join(drawn)}</g>"
 
     def lanes(self) -> Iterator[str]:
         """The lane behind each row that has a name."""
@@ -237,7 +237,7 @@ class Band:
         """All that is drawn, what lies below first."""
         yield from self.lanes()
         yield from self.heads()
-        yield from (self.arrow(place, arrow, self.path(place, arrow)) for place, arrow in self.own.items())
+        yield from (self.arrow(place, arrow, self.path(place, arrow)) for place, arrow in self.whole.items())
         yield from (self.arrow(place, arrow, self.short_way(place, arrow)) for place, arrow in self.short.items())
         yield from (self.box(box) for _, box in sorted(self.boxes.items(), key=lambda box: str(box[0])))
 
@@ -246,5 +246,5 @@ def line_of(text: str, x: float, y: float, is_first: bool) -> str:
     """A line of a box; a long one is drawn closer, so that it fits."""
     room = BOX_WIDTH - 2 * PADDING
     fitted = f' textLength="{room}" lengthAdjust="spacingAndGlyphs"' if len(text) * LETTER > room else ""
-    own = ' class="first"' if is_first else ""
-    return f'<text{own} x="{shifted(x)}" y="{shifted(y)}" text-anchor="middle"{fitted}>{markup(text)}</text>'
+    first = ' class="first"' if is_first else ""
+    return f'<text{first} x="{shifted(x)}" y="{shifted(y)}" text-anchor="middle"{fitted}>{markup(text)}</text>'

@@ -50,11 +50,11 @@ def change_in_words(rows: list[str]) -> str:
 
 def edit_in_words(row: str) -> str:
     """A change by hand, of its row."""
-    own = edits.edit_of(row)
-    of = f"account {own.number}" if own.number else "the rules"
-    if own.how == edits.OPEN:
-        return f"{of} is new: {called(own.words[0])}, holder {own.words[1]}"
-    return f"{of}: {HOW[own.how]} {words_of_row(','.join(own.words))}"
+    edit = edits.edit_of(row)
+    of = f"account {edit.number}" if edit.number else "the rules"
+    if edit.how == edits.OPEN:
+        return f"{of} is new: {called(edit.words[0])}, holder {edit.words[1]}"
+    return f"{of}: {HOW[edit.how]} {words_of_row(','.join(edit.words))}"
 
 
 def side_by_side(rows: list[str]) -> list[tuple[str, str, str]]:

@@ -43,9 +43,9 @@ def bar(standing: Standing) -> Markup:
     is_open, width = bool(standing.years_without_emissions), BAR_WIDTH - 2
     most = (2 if is_open else 1) * max(standing.surrendered, standing.emissions, 1)
     filled, frame = standing.surrendered * width // most, width if is_open else standing.emissions * width // most
-    known = f"emissions {grouped(standing.emissions)}"
+    emitted = f"emissions {grouped(standing.emissions)}"
     missing = f" without those of {', '.join(map(str, standing.years_without_emissions))}, which are missing"
-    title = f"surrendered {grouped(standing.surrendered)}, {known}{missing if is_open else ''}"
+    title = f"surrendered {grouped(standing.surrendered)}, {emitted}{missing if is_open else ''}"
     end = "" if is_open else "V1"
     return Markup(
         f'<svg role="img" viewBox="0 0 {BAR_WIDTH} {BAR_HEIGHT}" width="{BAR_WIDTH}"><title>{title}</title>'
@@ -68,17 +68,17 @@ def order(standing: Standing) -> tuple[object, ...]:
 
 def operator_cells(settled: Settled, standing: Standing) -> Cells:
     """The cells of an operator."""
-    own, verdict = standing.account, standing.verdict_in_words
+    account, verdict = standing.account, standing.verdict_in_words
     shown = verdict if standing.verdict in compliance.SETTLED else tag("strong", verdict)
     surrendered, emissions, *others = map(amount, standing.figures)
-    start = settled.named_account(own.number), own.kind, settled.names.holder(own.holder), own.status
+    start = settled.named_account(account.number), account.kind, settled.names.holder(account.holder), account.status
     return (*start, surrendered, emissions, bar(standing), *others, shown)
 
 
 def counts_table(rows: list[Standing]) -> Markup:
     """How many accounts have each verdict."""
     count = {verdict: sum(standing.verdict == verdict for standing in rows) for verdict in MEANING}
-    shown = ((verdict, grouped(count[verdict]), said) for verdict, said in MEANING.items() if count[verdict])
+    shown = ((verdict, grouped(count[verdict]), meaning) for verdict, meaning in MEANING.items() if count[verdict])
     return table("Accounts by verdict", ["Verdict", "Accounts", "What it means"], shown, right=("Accounts",))
 
 
@@ -118,8 +118,8 @@ def compliance_pages(settled: Settled, files: dict[str, str], year: int | None, 
     ]  # fmt: skip
     shown = [operator_cells(settled, standing) for standing in rows]
     title = f"Compliance for {year}"
-    own = LongTable(files["compliance"], title, Table(COLUMNS, NUMBERS), title, shown, lead)
-    yield from own.pages(settled.frame, note=note, is_across=True)
+    table = LongTable(files["compliance"], title, Table(COLUMNS, NUMBERS), title, shown, lead)
+    yield from table.pages(settled.frame, note=note, is_across=True)
 
 
 ACCOUNT_COLUMNS = ["Account", "Kind", "Holder", "Status", "General", "Aviation", "Done", "Refused", "Waiting"]
@@ -129,7 +129,7 @@ NAME = "Name"
 
 def account_rows(settled: Settled) -> Iterator[Cells]:
     """What each account holds, and how many instructions about it were done and refused, and wait."""
-    count = Counter((number, kind_of(own)) for own in settled.log for number in own.touched())
+    count = Counter((number, kind_of(logged)) for logged in settled.log for number in logged.touched())
     parts = rows_of_parts(settled.report.numbers)
     starts = {first for part in parts for first, _ in index.ranges(part, index.RANGE)}
     for number, block in settled.report.book.items():
@@ -160,5 +160,5 @@ def account_list_pages(settled: Settled, files: dict[str, str], note: str) -> It
     first, *others = ACCOUNT_COLUMNS
     columns = [first, NAME, *others] if settled.names.has(ACCOUNT) else ACCOUNT_COLUMNS
     table_of = Table(columns, NUMBERS_OF_ACCOUNT)
-    own = LongTable(files["accounts"], "Accounts", table_of, "All accounts", rows, [lead], before)
-    yield from own.pages(settled.frame, note=note)
+    table = LongTable(files["accounts"], "Accounts", table_of, "All accounts", rows, [lead], before)
+    yield from table.pages(settled.frame, note=note)

@@ -21,11 +21,11 @@ def bands_of(boxes: dict[int, Box], arrows: Sequence[Arrow], most_columns: int, 
     last = max(box.column for box in boxes.values())
     for first in range(0, last + 1, most_columns):
         columns = range(first, min(first + most_columns, last + 1))
-        own = {key: box for key, box in boxes.items() if box.column in columns}
-        if own:
-            outside = {key: f"from {boxes[key].name}" for key in boxes if key not in own}
+        inside = {key: box for key, box in boxes.items() if box.column in columns}
+        if inside:
+            outside = {key: f"from {boxes[key].name}" for key in boxes if key not in inside}
             crossing = [replace(arrow, label=outside.get(arrow.tail, arrow.label)) for arrow in arrows]
-            yield Band(own, crossing, columns, names)
+            yield Band(inside, crossing, columns, names)
 
 
 def drawn(boxes: dict[int, Box], arrows: Sequence[Arrow], most_columns: int, names: Names) -> tuple[str, float, float]:

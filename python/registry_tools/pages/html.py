@@ -45,8 +45,8 @@ def markup(words: object) -> str:
 
 def attributes_of(attributes: Mapping[str, object]) -> str:
     """The attributes of a start tag. `class_` is class, `_` is a hyphen; those without a value are left out."""
-    said = ((name.rstrip("_").replace("_", "-"), value) for name, value in attributes.items())
-    return "".join(f' {name}="{escape(str(value))}"' for name, value in said if value is not None)
+    written = ((name.rstrip("_").replace("_", "-"), value) for name, value in attributes.items())
+    return "".join(f' {name}="{escape(str(value))}"' for name, value in written if value is not None)
 
 
 def tag(name: str, *children: object, **attributes: object) -> Markup:
@@ -129,8 +129,8 @@ class Table:
         """`heads` stand over the columns in place of their names."""
         self.columns, self.right, self.is_short = columns, right, is_short
         kinds = ("n" if column in right else None for column in columns)
-        own = [tag("th", head, scope="col", class_=kind) for kind, head in zip(kinds, heads or columns)]
-        self.head = tag("thead", tag("tr", *own))
+        cells = [tag("th", head, scope="col", class_=kind) for kind, head in zip(kinds, heads or columns)]
+        self.head = tag("thead", tag("tr", *cells))
         self.starts = [self.start(place, column) for place, column in enumerate(columns)]
         self.end = "</td>" if len(columns) > 1 else "</th>"
 
@@ -154,8 +154,8 @@ class Table:
         attributes = f' class="{classes}"' if classes else ""
         body = "\n".join(self.row(cells) for cells in rows)
         last = f"\n<tfoot>{''.join(self.row(cells) for cells in foot)}</tfoot>" if foot else ""
-        said = f"<caption>{markup(caption)}</caption>"
-        return Markup(f"<table{attributes}>{said}{self.head}\n<tbody>{body}</tbody>{last}</table>")
+        of_caption = f"<caption>{markup(caption)}</caption>"
+        return Markup(f"<table{attributes}>{of_caption}{self.head}\n<tbody>{body}</tbody>{last}</table>")
 
 
 def table(
@@ -202,8 +202,8 @@ class Frame:
 
     def navigation(self, root: str, current: str | None) -> Markup:
         """The links to the sections, of which one is the current one."""
-        own = ((f"{root}{file}", name, "page" if file == current else None) for file, name in self.sections)
-        links = (tag("li", link(file, name, aria_current=page)) for file, name, page in own)
+        rows = ((f"{root}{file}", name, "page" if file == current else None) for file, name in self.sections)
+        links = (tag("li", link(file, name, aria_current=page)) for file, name, page in rows)
         return tag("nav", tag("ul", *links), aria_label="Pages")
 
     def start(self, root: str, current: str | None, parts: Sequence[str], is_across: bool) -> str:

@@ -30,8 +30,8 @@ def words_of(first: int, last: int) -> str:
 
 def nav(targets: list[tuple[str, str]]) -> Markup:
     """Links with their words."""
-    own = [tag("li", tag("a", words, href=target)) for target, words in targets]
-    return tag("nav", paragraph(WORDS), tag("ol", *own), aria_label=WORDS.rstrip(":"), class_="parts")
+    links = [tag("li", tag("a", words, href=target)) for target, words in targets]
+    return tag("nav", paragraph(WORDS), tag("ol", *links), aria_label=WORDS.rstrip(":"), class_="parts")
 
 
 def of_all(settled: Settled, file: str) -> Markup:

@@ -42,12 +42,12 @@ def days_of(days: Days, number: int, most: int) -> list[IndexedDay]:
     log: dict[datetime.date, list[OwnRow]] = {date: [] for date in dates}
     for row in logged(days, [NAMING, "i.date >= :begin"], {"account": number, "begin": str(dates[0])}):
         is_named = number in rules.named(row.instruction)
-        own = own_row_of(row, number, lambda other: users_on(other, row.date)) if is_named else None
-        log[row.date] += [own] if own else []
+        of_account = own_row_of(row, number, lambda other: users_on(other, row.date)) if is_named else None
+        log[row.date] += [of_account] if of_account else []
     held = {date: held_before(days, accounts[number], date) for date in dates}
     return [
-        IndexedDay(date, {number: own if held[date] else []}, held[date], users_on(number, date))
-        for date, own in log.items()
+        IndexedDay(date, {number: rows if held[date] else []}, held[date], users_on(number, date))
+        for date, rows in log.items()
     ]
 
 

@@ -5,6 +5,7 @@ import re
 from collections.abc import Iterator, Sequence
 from dataclasses import dataclass
 
+from registry_tools import tables
 from registry_tools.calendars.due_days import NOT_DUE
 from registry_tools.texts.sender import Sender
 from registry_tools.texts.namebook import ACCOUNT
@@ -23,11 +24,7 @@ from registry_tools.texts.report import LogRow
 DONE_LATER = Table(["Asked for on", "Record", "Instruction", "Why not then", "Done on", "As record"])
 NOT_DUE_YET = "It was not due yet."
 # The checks that find something of the account alone, and of no other account, user or list.
-OF_ITSELF = {
-    "SourceStatus", "OutsideCalendar", "KindNotAllowed", "ZeroAmount", "UnknownTransaction", "AlreadyReversed",
-    "WindowClosed", "NotEnough", "RetiredTooLarge", "RowsFull", "WouldBecomeNonCompliant", "YearOutsidePeriod",
-    "AmountTooLarge", "EmissionsMissing",
-}  # fmt: skip
+OF_ITSELF = {check.name for check in tables.CHECKS if check.of_itself}
 # What the lines of a table are, by their first fields.
 LINES = {
     "statement": "the last day, and the account with its kind, holder and status behind it",
@@ -165,8 +162,8 @@ def section_of(
 ) -> Markup:  # fmt: skip
     """An account: its number and holder stand at the head of each page on which it is printed. Its last line tells the
     name of its statement as a table, and the sum of that; behind the last account, what the lines of a table are."""
-    own = settled.names.name_of(ACCOUNT, statement.number)
-    name = ", ".join(filter(None, [f"Account {statement.number}", own, holder]))
+    label = settled.names.name_of(ACCOUNT, statement.number)
+    name = ", ".join(filter(None, [f"Account {statement.number}", label, holder]))
     since = f"This account has had another holder: its statement begins on {long_date(statement.first_day)}."
     lead = [tag("p", since)] if is_taken_over else []
     name_of_table, sum_of_table = table

@@ -35,24 +35,24 @@ def message(
     of the files that are attached, each by its name."""
     title, lead, tasks = told
     page, *tables = files
-    own = EmailMessage(email.policy.SMTP)
-    own["Subject"] = f"Registry: statements of holder {holder}, {days}"
+    mail = EmailMessage(email.policy.SMTP)
+    mail["Subject"] = f"Registry: statements of holder {holder}, {days}"
     if sender.mail:
-        own["From"] = Address(sender.name, addr_spec=sender.mail)
+        mail["From"] = Address(sender.name, addr_spec=sender.mail)
     if to:
-        own["To"] = [Address(addr_spec=address) for address in to]
+        mail["To"] = [Address(addr_spec=address) for address in to]
     # (a mail program opens it to be sent, and not as one that came)
-    own["X-Unsent"] = "1"
+    mail["X-Unsent"] = "1"
     words = "\n".join(f"- {task}" for task in tasks)
-    own.set_content(
+    mail.set_content(
         BODY.format(sender=f"From {sender}.", title=title, lead=lead, tasks=words, page=page, tables=", ".join(tables))
     )
     for name, text in files.items():
         # (as bytes: the page tells the sum of each table, and a text would get other line ends)
         kind = "html" if name == page else "csv"
-        own.add_attachment(text.encode(), "text", kind, filename=name, params={"charset": "utf-8"})
-    own.set_boundary(f"registry-{sum_of(''.join(files.values()).encode())[:40]}")
-    return own.as_bytes()
+        mail.add_attachment(text.encode(), "text", kind, filename=name, params={"charset": "utf-8"})
+    mail.set_boundary(f"registry-{sum_of(''.join(files.values()).encode())[:40]}")
+    return mail.as_bytes()
 
 
 def addresses_of(path: str | Path) -> dict[int, list[str]]:
@@ -68,8 +68,8 @@ def addresses_of(path: str | Path) -> dict[int, list[str]]:
     return found
 
 
-def must_be_of(path: str, known: Mapping[int, object], found: Mapping[int, object]) -> None:
+def must_be_of(path: str, has: Mapping[int, object], found: Mapping[int, object]) -> None:
     """Raises FileFault if a file has an address for what is no holder."""
     for holder in found:
-        if holder not in known:
+        if holder not in has:
             raise FileFault(path, 0, "HOLDER", holder, "the number of a holder of an account")

@@ -59,7 +59,8 @@ def totals_parts(days: list[DayOfMonth], way: Way) -> Iterator[Markup]:
         (day, (day.done, day.refused.total(), day.waiting, *(day.allowances[kind] for kind in rules.KINDS)))
         for day in days
     )
-    rows = [(way(f"/days/{day.date}", day.date), *map(grouped, own)) for day, own in numbers if any(own[:3])]
+    busy = ((day, amounts) for day, amounts in numbers if any(amounts[:3]))
+    rows = [(way(f"/days/{day.date}", day.date), *map(grouped, amounts)) for day, amounts in busy]
     yield DAYS.of("Each day with instructions, and what there is after it", rows)
     if len(rows) < len(days):
         yield paragraph(f"Days without instructions: {len(days) - len(rows)}.")
@@ -79,8 +80,9 @@ def refusal_parts(days: list[DayOfMonth]) -> Iterator[Markup]:
 def still_waiting(waiting: list[Waiting], names: Labels, most: int | None) -> Iterator[Markup]:
     """What waits behind the last day, at most so many."""
     yield heading("Waiting")
-    due = sorted(((str(own.due or own.entered or NO_DUE_DAY), own) for own in waiting), key=lambda pair: pair[0])
-    rows = [(day, own.record or "", instruction_in_words(own.instruction, names.account)) for day, own in due]
+    dated = ((str(waits.due or waits.entered or NO_DUE_DAY), waits) for waits in waiting)
+    due = sorted(dated, key=lambda pair: pair[0])
+    rows = [(day, waits.record or "", instruction_in_words(waits.instruction, names.account)) for day, waits in due]
     if rows:
         yield from first_rows_of(WAITING, "What waits behind the last day", rows, most)
     else:
@@ -94,7 +96,7 @@ def lead_of(days: list[DayOfMonth], office: Office | None, waiting: list[Waiting
     if office:
         waits = f", waiting {grouped(len(waiting))}"
         span = days[0].date, days[-1].date
-        back = sum(own.what == UNDONE and span[0] <= own.date <= span[1] for own in office.store.events.all)
+        back = sum(span[0] <= event.date <= span[1] for event in office.store.events.named(UNDONE))
     taken = f" Closings taken back: {back}." if back else ""
     return f"Days: {len(days)}. Done {grouped(done)}, refused {grouped(refused)}{waits}.{taken}"
 
@@ -108,8 +110,8 @@ def hand_rows(days: list[DayOfMonth], names: Labels, way: Way) -> Iterator[tuple
             if dates:
                 words = f"{sign} {what}: {len(dates)}, from {dates[0]} to {dates[-1]}"
                 yield way(f"/days/{day.date}", day.date), OF_RULES, words
-        own = (change for change in day.changes if not change.row.startswith(WORK))
-        for change in own:
+        changes = (change for change in day.changes if not change.row.startswith(WORK))
+        for change in changes:
             of = way(f"/accounts/{change.account}", names.account(change.account)) if change.account else OF_RULES
             yield way(f"/days/{day.date}", day.date), of, f"{change.sign} {words_of_row(change.row)}"
 

@@ -67,7 +67,7 @@ def compliance_facts(rows: list[Standing], year: int, until: str) -> Markup:
     missing, debtors = sum(row.missing or 0 for row in rows), sum(bool(row.missing) for row in rows)
     told = (COMPLIANT, MISSING, NO_EMISSIONS)
     # (of an excluded account without them nobody knows either)
-    known = [row for row in rows if not row.years_without_emissions]
+    complete = [row for row in rows if not row.years_without_emissions]
     return facts([
         ("Year", year),
         ("Until when", until),
@@ -76,8 +76,8 @@ def compliance_facts(rows: list[Standing], year: int, until: str) -> Markup:
         ("Missing allowances", f"{grouped(missing)}, of {count_of(debtors, 'operator', 'operators')}"),
         ("Without emissions of some year", grouped(count[NO_EMISSIONS])),
         *((word.capitalize(), grouped(count[word])) for word in VERDICTS if count[word] and word not in told),
-        ("Surrendered", f"{grouped(sum(row.surrendered for row in known))}, by those whose emissions are known"),
-        ("Emissions", f"{grouped(sum(row.emissions for row in known))}, of the same"),
+        ("Surrendered", f"{grouped(sum(row.surrendered for row in complete))}, by those whose emissions are known"),
+        ("Emissions", f"{grouped(sum(row.emissions for row in complete))}, of the same"),
     ])  # fmt: skip
 
 

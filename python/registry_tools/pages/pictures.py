@@ -22,13 +22,13 @@ def ticks_of(most: int) -> list[int]:
     """Round numbers from 0 up to at least the largest one, as labels of an axis."""
     rough = max(most, TICKS - 1) / (TICKS - 1)
     power = 10 ** math.floor(math.log10(rough))
-    step = next(int(power * own) for own in (1, 2, 2.5, 5, 10) if power * own >= rough and power * own % 1 == 0)
+    step = next(int(power * of) for of in (1, 2, 2.5, 5, 10) if power * of >= rough and power * of % 1 == 0)
     return [step * place for place in range(-(-max(most, 1) // step) + 1)]
 
 
 def holdings(days: Days) -> Markup:
     """What all accounts held after each of these days, by kind, as lines over days, in a picture with its sentence."""
-    most = max(held for _, own in days for held in own.values())
+    most = max(held for _, amounts in days for held in amounts.values())
     ticks = ticks_of(most)
     left = max(len(grouped(ticks[-1])) * LETTER + 10, 40)
 
@@ -40,11 +40,11 @@ def holdings(days: Days) -> Markup:
 
     parts = [*axis_of_amounts(ticks, left, up), *axis_of_days([date for date, _ in days], across)]
     for drawn, kind in zip(DRAWN, rules.KINDS):
-        places = [(across(place), up(own[kind])) for place, (_, own) in enumerate(days)]
+        places = [(across(place), up(amounts[kind])) for place, (_, amounts) in enumerate(days)]
         parts.append(tag("polyline", points=" ".join(f"{x:.1f},{y:.1f}" for x, y in places), class_=drawn))
-        for (x, y), (date, own) in zip(places, days):
-            said = tag("title", f"{kind} after {date}: {grouped(own[kind])}")
-            parts.append(tag("circle", said, cx=f"{x:.1f}", cy=f"{y:.1f}", r="3", class_="bar"))
+        for (x, y), (date, amounts) in zip(places, days):
+            title = tag("title", f"{kind} after {date}: {grouped(amounts[kind])}")
+            parts.append(tag("circle", title, cx=f"{x:.1f}", cy=f"{y:.1f}", r="3", class_="bar"))
         x, y = places[-1]
         parts.append(tag("text", kind, x=f"{x + 8:.1f}", y=f"{y + 4:.1f}", class_="first"))
     told = sentence_of(days)
@@ -55,17 +55,17 @@ def holdings(days: Days) -> Markup:
 def axis_of_amounts(ticks: list[int], left: float, up: object) -> Iterator[Markup]:
     """The axis of amounts, a line for each of its labels."""
     assert callable(up)
-    for own in ticks:
-        y = up(own)
+    for amount in ticks:
+        y = up(amount)
         yield tag("path", d=f"M{left:.1f},{y:.1f}H{WIDTH - RIGHT}", class_="axis")
-        yield tag("text", grouped(own), x=f"{left - 6:.1f}", y=f"{y + 4:.1f}", text_anchor="end", class_="small")
+        yield tag("text", grouped(amount), x=f"{left - 6:.1f}", y=f"{y + 4:.1f}", text_anchor="end", class_="small")
 
 
 def axis_of_days(dates: list[datetime.date], across: object) -> Iterator[Markup]:
     """The axis of days, of which some have labels."""
     assert callable(across)
     last = len(dates) - 1
-    for place in sorted({round(last * own / (TICKS - 1)) for own in range(TICKS)}):
+    for place in sorted({round(last * tick / (TICKS - 1)) for tick in range(TICKS)}):
         x = across(place)
         yield tag("path", d=f"M{x:.1f},{HEIGHT - BOTTOM}V{HEIGHT - BOTTOM + 4}", class_="axis")
         label = f"{dates[place].day} {dates[place]:%b}"
@@ -91,6 +91,6 @@ def change_of(change: int, first: datetime.date) -> str:
 def length_of(amount: int, most: int) -> Markup:
     """A bar as long as an amount is of the largest one."""
     frame = tag("rect", x="0.5", y="0.5", width=BAR - 1, height="9", class_="frame")
-    own = tag("rect", x="0", y="0", width=f"{max(BAR * amount / max(most, 1), 1):.1f}", height="10", class_="bar")
-    return tag("svg", own, frame, viewBox=f"0 0 {BAR} 10", preserveAspectRatio="none", class_="length", role="img",
+    bar = tag("rect", x="0", y="0", width=f"{max(BAR * amount / max(most, 1), 1):.1f}", height="10", class_="bar")
+    return tag("svg", bar, frame, viewBox=f"0 0 {BAR} 10", preserveAspectRatio="none", class_="length", role="img",
                aria_label=f"{grouped(amount)} of {grouped(most)}")  # fmt: skip

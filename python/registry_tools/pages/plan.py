@@ -38,11 +38,11 @@ def plan_of(log: Iterable[LogRow]) -> dict[int, Task]:
     last: dict[int, int] = {}
     tasks: dict[int, Task] = {}
     for logged in log:
-        own = logged.touched()
-        tails = sorted((last[number], number) for number in own if number in last)
+        accounts = logged.touched()
+        tails = sorted((last[number], number) for number in accounts if number in last)
         level = 1 + max((tasks[tail].level for tail, _ in tails), default=0)
         tasks[logged.record] = Task(logged, level, tails)
-        last.update(dict.fromkeys(own, logged.record))
+        last.update(dict.fromkeys(accounts, logged.record))
     return tasks
 
 
@@ -57,10 +57,11 @@ def box_of(logged: LogRow, column: int, row: int) -> grid.Box:
 def arrows_of(tasks: dict[int, Task], records: Collection[int]) -> Iterator[grid.Arrow]:
     """The arrows between these records; one for each pair, with its accounts."""
     for head in records:
-        for tail, own in tasks[head].accounts().items():
+        for tail, accounts in tasks[head].accounts().items():
             if tail in records:
-                more = f" +{len(own) - 1}" if len(own) > 1 else ""
-                yield grid.Arrow(tail, head, own[0] + more, f"{head} waits for {tail}: account {', '.join(own)}")
+                more = f" +{len(accounts) - 1}" if len(accounts) > 1 else ""
+                note = f"{head} waits for {tail}: account {', '.join(accounts)}"
+                yield grid.Arrow(tail, head, accounts[0] + more, note)
 
 
 def both(title: str, boxes: dict[int, grid.Box], arrows: list[grid.Arrow], names: grid.Names = grid.Names()) -> Markup:
@@ -81,23 +82,25 @@ def places_in_levels(tasks: dict[int, Task]) -> dict[int, tuple[int, int]]:
     for record, task in tasks.items():
         levels.setdefault(task.level, []).append(record)
     for level in sorted(levels):
-        own = levels[level]
-        tails = {record: [row_of[tail] for tail, _ in tasks[record].tails] for record in own}
-        middle = {record: sum(rows) / len(rows) if rows else own.index(record) for record, rows in tails.items()}
-        row_of.update({record: row for row, record in enumerate(sorted(own, key=lambda own: (middle[own], own)))})
+        records = levels[level]
+        tails = {record: [row_of[tail] for tail, _ in tasks[record].tails] for record in records}
+        middle = {record: sum(rows) / len(rows) if rows else records.index(record) for record, rows in tails.items()}
+        placed = sorted(records, key=lambda each: (middle[each], each))
+        row_of.update({record: row for row, record in enumerate(placed)})
     return {record: (tasks[record].level - 1, row) for record, row in row_of.items()}
 
 
 def waits_in_words(task: Task) -> str:
     """For which instructions a task waits, and at which accounts."""
-    return "; ".join(f"{tail} ({', '.join(own)})" for tail, own in sorted(task.accounts().items()))
+    return "; ".join(f"{tail} ({', '.join(accounts)})" for tail, accounts in sorted(task.accounts().items()))
 
 
 def plan_table(tasks: Iterable[Task], caption: str) -> Markup:
     """What the picture shows, a row for each instruction, by levels."""
+    by_level = sorted(tasks, key=lambda task: (task.level, task.logged.record))
     rows = (
-        (own.logged.record, own.level, record_in_words(own.logged), outcome_in_words(own.logged), waits_in_words(own))
-        for own in sorted(tasks, key=lambda task: (task.level, task.logged.record))
+        (logged.record, task.level, record_in_words(logged), outcome_in_words(logged), waits_in_words(task))
+        for task, logged in ((task, task.logged) for task in by_level)
     )
     columns = ["Record", "Level", "Instruction", "Outcome", "Waits for (account)"]
     return table(caption, columns, rows, right=("Level",))
@@ -118,10 +121,10 @@ def whole_plan(settled: Settled, tasks: dict[int, Task]) -> list[Markup]:
 
 def longest_chain(tasks: dict[int, Task]) -> list[int]:
     """The records of a longest chain, of which each waits for the one before it."""
-    record = max(tasks, key=lambda own: (tasks[own].level, -own))
+    record = max(tasks, key=lambda each: (tasks[each].level, -each))
     chain = [record]
     while tasks[record].tails:
-        record = max((tail for tail, _ in tasks[record].tails), key=lambda own: (tasks[own].level, -own))
+        record = max((tail for tail, _ in tasks[record].tails), key=lambda each: (tasks[each].level, -each))
         chain.append(record)
     return chain[::-1]
 
@@ -136,13 +139,13 @@ def chain_parts(tasks: dict[int, Task]) -> list[Markup]:
     drawn = [*chain[:CHAIN_ENDS], *chain[-CHAIN_ENDS:]] if is_cut else chain
     boxes = {record: box_of(tasks[record].logged, column, 0) for column, record in enumerate(drawn)}
     arrows = [*arrows_of(tasks, drawn)]
-    said = f"The longest chain: {length}, of which each waits for the one before it"
+    caption = f"The longest chain: {length}, of which each waits for the one before it"
     if is_cut:
         left_out = f"{grouped(len(chain) - len(drawn))} more"
         arrows.append(grid.Arrow(drawn[CHAIN_ENDS - 1], drawn[CHAIN_ENDS], left_out, "the middle of the chain"))
-        said += f". Its first {CHAIN_ENDS} and its last {CHAIN_ENDS} are shown"
+        caption += f". Its first {CHAIN_ENDS} and its last {CHAIN_ENDS} are shown"
     table_of_chain = plan_table([tasks[record] for record in drawn], "The chain in words")
-    return [figure(said, both(said, boxes, arrows)), table_of_chain]
+    return [figure(caption, both(caption, boxes, arrows)), table_of_chain]
 
 
 def bars(title: str, rows: Sequence[tuple[object, int]]) -> Markup:

@@ -54,7 +54,7 @@ class Rulebook:
     def __init__(self, root: str = "") -> None:
         self.root = root
         numbered = enumerate(tables.CHECKS, 1)
-        self.checks = {code: Check(code, own.name, own.meaning, own.advice) for code, own in numbered}
+        self.checks = {code: Check(code, check.name, check.meaning, check.advice) for code, check in numbered}
         self.kinds, self.statuses = tables.KINDS, tables.STATUSES
 
     def words(self, sentence: str, root: str = "") -> str:

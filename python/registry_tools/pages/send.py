@@ -125,12 +125,13 @@ def send(days: Days, names: Labels, asked: Send, folder: str, keep: Callable[[],
             places = places_by_number(told, numbers)
             texts = {number: statement_from(told[place:], number) for number, place in places.items()}
             tables = {number: (f"{holder}-{number}.csv", sum_of(text.encode())) for number, text in texts.items()}
-            own = letter(settled, [day.told for day in told], holder, places, days.head, tables, asked.sender, tasks)
-            files = {f"{holder}.html": own.page, **{tables[number][0]: text for number, text in texts.items()}}
+            each_day = [day.told for day in told]
+            of_holder = letter(settled, each_day, holder, places, days.head, tables, asked.sender, tasks)
+            files = {f"{holder}.html": of_holder.page, **{tables[number][0]: text for number, text in texts.items()}}
             for name, text in files.items():
                 made.write(name, text)
             if asked.as_messages:
-                words = own.title, own.lead, own.tasks
+                words = of_holder.title, of_holder.lead, of_holder.tasks
                 to = mails.get(holder, [])
                 made.write_bytes(f"{holder}.eml", message(holder, span, asked.sender, to, words, files))
         made.have_all_there()

@@ -97,7 +97,8 @@ class Settled:
         first."""
         head = head_after(self.day, self.report)
         refused = (Waiting(logged.record, logged.instruction) for logged in self.log if logged.name == NOT_DUE)
-        waiting = (dataclasses.replace(own, due=due_day_after(head, own.instruction)) for own in (*earlier, *refused))
+        left = (*earlier, *refused)
+        waiting = (dataclasses.replace(waits, due=due_day_after(head, waits.instruction)) for waits in left)
         return sorted(waiting, key=lambda waits: (waits.due or datetime.date.max, waits.record or 0))
 
     def account_link(self, number: int, root: str = "") -> Markup | str:
@@ -153,12 +154,12 @@ def rows_of_parts(rows: Sequence[Row], size: int | None = None) -> Iterator[Sequ
 
 def ways(file: str, number: int, words_of_pages: list[str]) -> Markup:
     """Links between the pages of a table: each is named by the first row that it shows."""
-    own = (
+    items = (
         tag("li", tag("strong", words) if place == number else link(page_name(file, place), words))
         for place, words in enumerate(words_of_pages, 1)
     )
     words = f"Page {number} of {len(words_of_pages)}. Each page by its first row:"
-    return tag("nav", tag("p", words), tag("ol", *own), aria_label="Parts", class_="parts")
+    return tag("nav", tag("p", words), tag("ol", *items), aria_label="Parts", class_="parts")
 
 
 @dataclasses.dataclass

@@ -88,8 +88,8 @@ class Own:
         """What it is, with the allowances that it asks to move at the account."""
         rest = self.rest
         if self.act == "distribute":
-            own = sum(map(int, rest[3::2])) if rest[0] == str(self.number) else int(rest[3])
-            return f"{self.words}, {grouped(own)} {rest[1]}"
+            amount = sum(map(int, rest[3::2])) if rest[0] == str(self.number) else int(rest[3])
+            return f"{self.words}, {grouped(amount)} {rest[1]}"
         if self.act in ("transfer", "return", "central", "surrender", "delete", "create"):
             return f"{self.words}, {grouped(rest[-1])} {rest[-2]}"
         return self.words
@@ -149,18 +149,18 @@ class Statement:
             nothing = ("", "refused", "Nothing: this account did not ask for it.")
             self.refused.append((date, logged.record, OF_ANOTHER, *nothing))
             return
-        own = Own(logged, self.number, self.users)
+        entry = Own(logged, self.number, self.users)
         if not logged.is_done:
-            by = self.users_in_words(own.by)
-            self.refused.append((date, logged.record, own.words_with_amount, by, *self.refusal(logged)))
+            by = self.users_in_words(entry.by)
+            self.refused.append((date, logged.record, entry.words_with_amount, by, *self.refusal(logged)))
             return
         after = logged.held[self.number]
         moved = [kind for kind in KINDS if after[kind] != self.held[kind]]
         for kind in moved:
-            self.enter((date, logged.record, own.words, self.users_in_words(own.by)), kind, after[kind])
+            self.enter((date, logged.record, entry.words, self.users_in_words(entry.by)), kind, after[kind])
         if not moved:
             figure = "" if logged.figure is None else f": figure {grouped(logged.figure)}"
-            self.others.append((date, logged.record, own.words + figure, self.users_in_words(own.by)))
+            self.others.append((date, logged.record, entry.words + figure, self.users_in_words(entry.by)))
 
     def holder(self, account: rules.Account) -> str:
         """The holder of the account, in words."""
@@ -182,9 +182,9 @@ class Statement:
 
     # Parts of the page.
 
-    def table(self, own: Table, caption: object, rows: Iterable[Cells], foot: Sequence[Cells] = ()) -> Markup:
+    def table(self, columns: Table, caption: object, rows: Iterable[Cells], foot: Sequence[Cells] = ()) -> Markup:
         """A table of the page, with all its columns."""
-        return own.of(caption, rows, foot)
+        return columns.of(caption, rows, foot)
 
     def kind_parts(self, kind: str) -> Iterator[Markup]:
         """The entries of a kind of allowance, with the balance."""

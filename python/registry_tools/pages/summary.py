@@ -42,7 +42,7 @@ def lead(settled: Settled) -> Markup:
 
 def acts_table(settled: Settled) -> Markup:
     """How many instructions of each act were done and refused, and how many wait."""
-    count = Counter((own.instruction.act, kind) for own in settled.log for kind in (kind_of(own), "all"))
+    count = Counter((logged.instruction.act, kind) for logged in settled.log for kind in (kind_of(logged), "all"))
     columns = (*OUTCOMES, "all")
     acts = [act for act in ACTS if count[act, "all"]]
     rows = [(settled.rulebook.act_link(act), *(grouped(count[act, kind]) for kind in columns)) for act in acts]
@@ -96,7 +96,7 @@ def log_cells(settled: Settled, logged: LogRow) -> Cells:
     """An instruction as a row of LOG_COLUMNS. Of an assessment that was done, with its figure."""
     i = logged.instruction
     figure = "" if logged.figure is None else f": figure {grouped(logged.figure)}"
-    proposer, approver = (("" if own is None else settled.names.user(own)) for own in (i.proposer, i.approver))
+    proposer, approver = (("" if user is None else settled.names.user(user)) for user in (i.proposer, i.approver))
     accounts, words = settled.accounts_of(logged), record_in_words(logged) + figure
     return logged.record, accounts, words, i.proposed, proposer, approver
 
@@ -125,8 +125,8 @@ class Shown:
     def pages(self, settled: Settled, note: str) -> Iterator[tuple[str, str]]:
         """The pages of all of them, if the page of the day does not show all."""
         if len(self.rows) > MOST_SHOWN:
-            own = LongTable(self.file, self.title, Table(self.columns), self.caption, self.rows, self.lead)
-            yield from own.pages(settled.frame, note=note)
+            table = LongTable(self.file, self.title, Table(self.columns), self.caption, self.rows, self.lead)
+            yield from table.pages(settled.frame, note=note)
 
 
 def way_back(anchor: str = "") -> Markup:
@@ -142,8 +142,8 @@ def done_of(settled: Settled) -> Shown:
 
 def done_parts(settled: Settled) -> list[Markup]:
     """The instructions that were done; of many, the first ones."""
-    own = done_of(settled)
-    return [*own.parts()] if own.rows else [paragraph("No instruction was done.")]
+    shown = done_of(settled)
+    return [*shown.parts()] if shown.rows else [paragraph("No instruction was done.")]
 
 
 def refused_by(settled: Settled, code: int, refused: list[LogRow]) -> Shown:
@@ -154,12 +154,12 @@ def refused_by(settled: Settled, code: int, refused: list[LogRow]) -> Shown:
     return Shown(f"refused-{code}.html", title, caption, LOG_COLUMNS, rows, lead, which)
 
 
-def refusals_of(settled: Settled, code: int, own: list[LogRow]) -> Iterator[Markup]:
+def refusals_of(settled: Settled, code: int, log: list[LogRow]) -> Iterator[Markup]:
     """A check with its meaning, its remedy and the instructions that it refused."""
-    count, name = count_of(len(own), "instruction", "instructions"), settled.rulebook.check_link(code)
+    count, name = count_of(len(log), "instruction", "instructions"), settled.rulebook.check_link(code)
     yield tag("h3", f"{code} ", name, f": {count}", id=f"refused-{code}")
     yield from meaning(settled, settled.rulebook.checks[code])
-    yield from refused_by(settled, code, own).parts()
+    yield from refused_by(settled, code, log).parts()
 
 
 def meaning(settled: Settled, check: Check) -> Iterator[Markup]:
@@ -174,10 +174,10 @@ def refusals_parts(settled: Settled) -> list[Markup]:
     if not refused:
         return [paragraph("No instruction was refused.")]
     names = {code: settled.rulebook.checks[code].name for code in refused}
-    rows = ((link(f"#refused-{code}", f"{code} {names[code]}"), grouped(len(own))) for code, own in refused.items())
+    rows = ((link(f"#refused-{code}", f"{code} {names[code]}"), grouped(len(log))) for code, log in refused.items())
     return [
         table("Refusals by check", ["Check", "Refused"], rows, right=("Refused",), is_short=True),
-        *(part for code, own in refused.items() for part in refusals_of(settled, code, own)),
+        *(part for code, log in refused.items() for part in refusals_of(settled, code, log)),
     ]
 
 
@@ -203,11 +203,11 @@ def waiting_of(settled: Settled) -> Shown:
 
 def waiting_instructions(settled: Settled) -> list[Markup]:
     """The instructions that wait for their due day; of many, the first ones."""
-    own = waiting_of(settled)
-    if not own.rows:
+    shown = waiting_of(settled)
+    if not shown.rows:
         none = "No instruction waits." if settled.has_pending else f"No instruction of this day waits. {ELSEWHERE}"
         return [paragraph(none)]
-    return [paragraph(waiting_note(settled)), *own.parts()]
+    return [paragraph(waiting_note(settled)), *shown.parts()]
 
 
 def sections(settled: Settled, files: dict[str, str], by_hand: ByHand) -> Iterator[tuple[str, list[Markup]]]:
@@ -224,9 +224,10 @@ def sections(settled: Settled, files: dict[str, str], by_hand: ByHand) -> Iterat
 
 def summary_pages(settled: Settled, files: dict[str, str], by_hand: ByHand, note: str) -> Iterator[tuple[str, str]]:
     """The file and the text of each page of the day."""
-    parts = [part for name, own in sections(settled, files, by_hand) if own for part in (tag("h2", name), *own)]
+    filled = ((name, inside) for name, inside in sections(settled, files, by_hand) if inside)
+    parts = [part for name, inside in filled for part in (tag("h2", name), *inside)]
     title = f"Settlement day: {long_date(settled.head.date)}"
     yield files["day"], settled.frame.page(title, lead(settled), *parts, current=files["day"], note=note)
-    checks = (refused_by(settled, code, own) for code, own in settled.refused().items())
+    checks = (refused_by(settled, code, log) for code, log in settled.refused().items())
     for shown in (waiting_of(settled), done_of(settled), *checks):
         yield from shown.pages(settled, note)

@@ -33,9 +33,9 @@ def tasks_of(due: DueDates, day: DayText, report: Report, ask: Stand = standings
     """What is to be done for each account behind a day: by the deadlines of the office, and what is missing without
     one; what is overdue first. `ask` says how the accounts stand."""
     found: dict[int, list[Task]] = defaultdict(list)
-    for own in deadlines(due, day, report, Labels(), ask):
-        if own.account is not None:
-            found[own.account].append(Task(own.account, own.todo, own.date, own.what == OVERDUE))
+    for each in deadlines(due, day, report, Labels(), ask):
+        if each.account is not None:
+            found[each.account].append(Task(each.account, each.todo, each.date, each.what == OVERDUE))
     for task in [] if due.surrender else without_deadline(day, report):
         found[task.account].append(task)
     for tasks in found.values():

@@ -21,12 +21,12 @@ def bundles_of(tasks: dict[int, Task]) -> list[list[int]]:
     label: dict[int, int] = {}
     for record, task in sorted(tasks.items()):
         found = sorted({label[tail] for tail, _ in task.tails})
-        own = found[0] if found else record
+        first = found[0] if found else record
         for other in found[1:]:
-            label.update(dict.fromkeys(bundles[other], own))
-            bundles[own] += bundles.pop(other)
-        bundles.setdefault(own, []).append(record)
-        label[record] = own
+            label.update(dict.fromkeys(bundles[other], first))
+            bundles[first] += bundles.pop(other)
+        bundles.setdefault(first, []).append(record)
+        label[record] = first
     return [sorted(bundle) for bundle in bundles.values()]
 
 
@@ -89,8 +89,8 @@ def lanes_parts(tasks: dict[int, Task], owned: list[list[Region]], column: dict[
     boxes = boxes_of(tasks, owned, column)
     records = [places_of(lane) for lane in owned]
     names = Names(rows=[name_of(worker) for worker in range(len(records))])
-    said = f"A lane for each of {count_of(len(records), 'worker', 'workers')}, with the arrows of the plan"
-    yield figure(said, both(said, boxes, [*arrows_of(tasks, tasks)], names))
+    caption = f"A lane for each of {count_of(len(records), 'worker', 'workers')}, with the arrows of the plan"
+    yield figure(caption, both(caption, boxes, [*arrows_of(tasks, tasks)], names))
     rows = (
         (name_of(worker), place, record, record_in_words(tasks[record].logged), outcome_in_words(tasks[record].logged))
         for worker, lane in enumerate(records)
@@ -114,7 +114,7 @@ def owned_parts(tasks: dict[int, Task], owned: list[list[Region]]) -> Iterator[M
         yield table(title, columns, regions, right=("Instructions",))
     owner = owners_of([places_of(lane) for lane in owned])
     bundles = sorted(bundles_of(tasks), key=lambda bundle: (owner[bundle[0]], -len(bundle)))
-    rows = ((name_of(owner[own[0]]), ", ".join(map(str, own)), grouped(len(own))) for own in bundles)
+    rows = ((name_of(owner[each[0]]), ", ".join(map(str, each)), grouped(len(each))) for each in bundles)
     columns = ["Worker", "Records", "Instructions"]
     yield table("Who owned which instructions that belong together", columns, rows, right=("Instructions",))
 
@@ -122,8 +122,8 @@ def owned_parts(tasks: dict[int, Task], owned: list[list[Region]]) -> Iterator[M
 def shares_parts(tasks: dict[int, Task], records: list[list[int]]) -> Iterator[Markup]:
     """How many instructions of each act each worker executed."""
     counts = [Counter(tasks[record].logged.instruction.act for record in lane) for lane in records]
-    said = "Instructions by worker"
-    yield figure(said, bars(said, [(name_of(worker), len(lane)) for worker, lane in enumerate(records)]))
+    caption = "Instructions by worker"
+    yield figure(caption, bars(caption, [(name_of(worker), len(lane)) for worker, lane in enumerate(records)]))
     acts = [act for act in ACTS if any(count[act] for count in counts)]
     columns = ["Worker", *acts, "all"]
     rows = (

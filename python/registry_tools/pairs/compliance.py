@@ -4,6 +4,7 @@ import bisect
 import operator
 from collections.abc import Callable, Iterable, Iterator, Sequence
 from dataclasses import dataclass
+from typing import NamedTuple
 
 from registry_tools import tables, voice
 from registry_tools.engine import confirm_figures
@@ -16,6 +17,7 @@ from registry_tools.texts.day_text import DayText
 from registry_tools.texts.in_words import grouped, table_lines
 from registry_tools.texts.outdated import Entries, was_once_right
 from registry_tools.texts.report import Report
+from registry_tools.texts.runs import unlike
 
 COLUMNS = tables.COLUMNS["compliance"]
 # Where the accounts of a text begin.
@@ -80,7 +82,7 @@ def years_over(head: rules.Day) -> list[range]:
     """The years of each period that are over on the day, without periods that have none. Which period is the current
     one says for what is surrendered from now on, and takes no debt of another one away."""
     years = (range(first, min(last, head.date.year - 1) + 1) for first, last in head.periods)
-    return [own for own in years if own]
+    return [part for part in years if part]
 
 
 def period_of(head: rules.Day, year: int) -> int:
@@ -124,27 +126,44 @@ def standing_of(head: rules.Day, account: rules.Account, year: int, entries: Ent
     return Standing(account, year, surrendered, emitted, correction, determined, figure, missing_years, verdict)
 
 
-def standings(day: DayText, report: Report, year: int) -> Iterator[Standing]:
-    """How each operator and aircraft operator stands, rising by account. Raises FileFault if the library was built, and
-    determines other figures than the report has."""
+class Stood(NamedTuple):
+    """How operators stood for a year behind a day."""
+
+    day: DayText
+    report: Report
+    standings: list[Standing]
+
+    def same_behind(self, day: DayText, report: Report) -> dict[int, Standing]:
+        """Who stands so behind a later day, too: whose account has the same rows, if neither log tells more of it."""
+        if self.day.head.periods != day.head.periods:
+            return {}
+        told = Entries(self.day, self.report).of.keys() | Entries(day, report).of.keys()
+        apart = {*unlike(self.report.book, report.book), *told}
+        return {each.account.number: each for each in self.standings if each.account.number not in apart}
+
+
+def standings(day: DayText, report: Report, year: int, before: Stood | None = None) -> Iterator[Standing]:
+    """How each operator and aircraft operator stands, rising by account; those of an earlier day need not be worked out
+    again. Raises FileFault if the library was built, and determines other figures than the report has."""
     confirm_figures(day, report)
-    yield from standings_alone(day, report, year)
+    yield from standings_alone(day, report, year, before)
 
 
-def standings_alone(day: DayText, report: Report, year: int) -> Iterator[Standing]:
+def standings_alone(day: DayText, report: Report, year: int, before: Stood | None = None) -> Iterator[Standing]:
     """The same, without comparing the figures of all accounts: a report may have some accounts alone."""
     period_of(day.head, year)
-    entries = Entries(day, report)
+    entries, same = Entries(day, report), before.same_behind(day, report) if before else {}
     for block in progress.over(report.book.values(), "looking at the accounts", len(report.book)):
-        if block.kind in rules.OPERATORS:
+        if block.number in same:
+            yield same[block.number]
+        elif block.kind in rules.OPERATORS:
             yield standing_of(day.head, block.account(), year, entries)
 
 
 def compliant_share(day: DayText, report: Report, year: int) -> tuple[int, int]:
     """How many operators and aircraft operators are compliant for a year, of how many. Who has no figure of the year is
-    not, whatever else it has: so most accounts are not read. Raises FileFault as `standings` does."""
+    not, whatever else it has: so most accounts are not read. Nobody compares the figures."""
     period_of(day.head, year)
-    confirm_figures(day, report)
     entries, begins = Entries(day, report), f"figure,{year},"
     rows, blocks = report.source.rows, [*report.book.values()]
     count = sum(rows[block.index].split(",", 3)[2] in rules.OPERATORS for block in blocks)
@@ -159,9 +178,10 @@ def compliant_share(day: DayText, report: Report, year: int) -> tuple[int, int]:
 
 def cells(standing: Standing) -> list[Cell]:
     """The columns of an account."""
-    own = standing.account
+    account = standing.account
     verdict = standing.verdict if standing.verdict == MISSING else standing.verdict_in_words
-    return [own.number, own.kind, own.holder, own.status, standing.year, *standing.figures, verdict, standing.missing]
+    of_account: list[Cell] = [account.number, account.kind, account.holder, account.status]
+    return [*of_account, standing.year, *standing.figures, verdict, standing.missing]
 
 
 def counts(rows: Sequence[Standing]) -> list[str]:
@@ -176,17 +196,17 @@ def counts(rows: Sequence[Standing]) -> list[str]:
 
 def closed_words(rows: Iterable[Standing]) -> list[str]:
     """A line on the closed accounts about which something would have to be done, if there are some."""
-    count = sum(own.account.status == "closed" and own.verdict not in SETTLED for own in rows)
+    count = sum(standing.account.status == "closed" and standing.verdict not in SETTLED for standing in rows)
     several = f"{grouped(count)} accounts that are not compliant are"
-    own = several if count != 1 else "1 account that is not compliant is"
-    return [f"{own} closed: no act is done on a closed account, so that stays"] if count else []
+    which = several if count != 1 else "1 account that is not compliant is"
+    return [f"{which} closed: no act is done on a closed account, so that stays"] if count else []
 
 
 def standing_cells(standing: Standing, names: Labels) -> list[str]:
     """The cells of an account in the table, which says the year and what is missing once."""
-    own, amounts = standing.account, ["" if own is None else grouped(own) for own in standing.figures]
-    account, holder = names.account(own.number), names.holder(own.holder)
-    return [account, own.kind, holder, own.status, *amounts, standing.verdict_in_words]
+    account, amounts = standing.account, ["" if figure is None else grouped(figure) for figure in standing.figures]
+    name, holder = names.account(account.number), names.holder(account.holder)
+    return [name, account.kind, holder, account.status, *amounts, standing.verdict_in_words]
 
 
 def as_table(day: DayText, rows: Sequence[Standing], year: int, names: Labels) -> str:
@@ -196,7 +216,7 @@ def as_table(day: DayText, rows: Sequence[Standing], year: int, names: Labels) -
     head = [column for column in COLUMNS.names if column not in ("year", "missing")]
     right = {*head} - {"kind", "status", "verdict"}
     title = f"Compliance for {year}, in the period {first} to {last}, after {day.head.date}"
-    lines = table_lines(head, [standing_cells(own, names) for own in rows], right)
+    lines = table_lines(head, [standing_cells(standing, names) for standing in rows], right)
     return "\n".join([title, "", *lines, "", *counts(rows), ""])
 
 

@@ -57,8 +57,8 @@ def of_instructions(before: Report, after: Report) -> Iterator[str]:
 def by_row(report: Report) -> dict[str, list[LogRow]]:
     """The log rows, by what was to be done."""
     found: dict[str, list[LogRow]] = {}
-    for own in report.log:
-        found.setdefault(",".join(own.instruction.fields), []).append(own)
+    for row in report.log:
+        found.setdefault(",".join(row.instruction.fields), []).append(row)
     return found
 
 
@@ -129,13 +129,14 @@ def verdicts(day: DayText, report: Report) -> dict[int, str]:
     """The standing of each operator, in words; nothing, if no year is over."""
     try:
         year = last_year_over(day.head)
-        return {own.account.number: f"{own.verdict_in_words} for {year}" for own in standings(day, report, year)}
+        found = standings(day, report, year)
+        return {standing.account.number: f"{standing.verdict_in_words} for {year}" for standing in found}
     except Fault:
         return {}
 
 
 def of_waiting(before: Report, after: Report) -> Iterator[str]:
     """How many instructions of the day wait, if that differs."""
-    old, new = (sum(own.name == NOT_DUE for own in report.log) for report in (before, after))
+    old, new = (sum(row.name == NOT_DUE for row in report.log) for report in (before, after))
     if old != new:
         yield f"waiting of this day: {old} before, {new} now"

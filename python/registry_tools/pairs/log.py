@@ -67,14 +67,14 @@ def log_rows(report: Report, told: Known) -> Iterator[LogCells]:
 def known_of(report: Report, days: list[DayText]) -> Known:
     """What is known of each record of a report, if its day text is among these: its due day, and what was found where
     it is refused. What waits has the day on which ./day next enters it."""
-    day = next((own for own in days if own.head.date == report_date(report)), None)
+    day = next((each for each in days if each.head.date == report_date(report)), None)
     if day is None:
         return Known({}, {})
     must_follow(day, report)
     log = [*progress.over(rules.settle(day.day(), tells=True), "working out due days", len(day.instructions))]
     due = {record: logged.due for record, logged in enumerate(log, day.head.next_record)}
     passing = ((record, logged.passing) for record, logged in enumerate(log, day.head.next_record))
-    found = {record: own.found for record, own in passing if own}
+    found = {record: why.found for record, why in passing if why}
     head = head_after(day, report)
     waiting = (logged for logged in report.log if logged.name == NOT_DUE)
     return Known(due | {logged.record: due_day_after(head, logged.instruction) for logged in waiting}, found)
@@ -105,7 +105,7 @@ def look_at_order(reports: list[Report]) -> None:
     """Ends the command if a report is named twice, or stands before an earlier one."""
     for place, (report, later) in enumerate(zip(reports, reports[1:])):
         # (two days without instructions may have the same report)
-        same = (own for own in reports[: place + 1] if later.log and own.source.rows == later.source.rows)
+        same = (each for each in reports[: place + 1] if later.log and each.source.rows == later.source.rows)
         again = next(same, None)
         if again:
             raise WordsFault(f"{later.path} is {again.path} again: its rows would stand twice")

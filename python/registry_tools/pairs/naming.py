@@ -37,7 +37,7 @@ def in_row(row: str, names: Labels) -> list[str]:
         kinds = ACTS[fields[3]].fields.split()
         # (the last two fields of a distribution repeat)
         kinds += kinds[-2:] * ((len(fields) - 4 - len(kinds)) // 2)
-        numbers += [(ACCOUNT, own) for name, own in zip(kinds, fields[4:]) if name in OF_ACCOUNTS]
+        numbers += [(ACCOUNT, number) for name, number in zip(kinds, fields[4:]) if name in OF_ACCOUNTS]
     elif tag == "account" and fields:
         numbers += [(ACCOUNT, fields[0]), *([(HOLDER, fields[2])] if len(fields) > 8 else [])]
     told = (names.words(kind, number) for kind, number in dict.fromkeys(numbers) if (kind, number) in names.named)

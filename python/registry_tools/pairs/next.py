@@ -27,12 +27,14 @@ OUTSIDE = rules.name_of(rules.outside_calendar)
 
 
 def book_with_changes(
-    day: DayText, report: Report, path: str | None, notes: Notes, periods: list[tuple[int, int]] | None = None
+    day: DayText, report: Report, given: str | Rows | None, notes: Notes, periods: list[tuple[int, int]] | None = None
 ) -> dict[int, Block]:
-    """The book of the next day, with the blocks of a file. The periods are those of DAY, if no others are named."""
-    if path is None:
+    """The book of the next day, with the blocks of a file, or of rows that were read. The periods are those of DAY, if
+    no others are named."""
+    if given is None:
         return report.book
-    changes = read_changes(day, report, path, periods or day.head.periods)
+    path = given.path if isinstance(given, Rows) else given
+    changes = read_changes(day, report, given, periods or day.head.periods)
     for number, block in changes.items():
         old = report.book.get(number)
         raise_first(refusals(old, block))
@@ -45,23 +47,25 @@ def book_with_changes(
     return dict(sorted(both.items()))
 
 
-def read_changes(day: DayText, report: Report, path: str, periods: list[tuple[int, int]]) -> dict[int, Block]:
+def read_changes(
+    day: DayText, report: Report, given: str | Rows, periods: list[tuple[int, int]]
+) -> dict[int, Block]:
     """The accounts of a file of changes. One that names a period which the day does not have is told what the day
     lacks."""
     years = [last for _, last in periods]
     reading = faults.Reading(last="work", version=2, next_record=report.next_record, last_years=years)
     try:
-        return read_blocks(path, reading)
+        return read_blocks(given, reading)
     except RowFault as fault:
         if fault.field != "PERIOD":
             raise
         count = "1 period" if len(years) == 1 else f"{len(years)} periods"
-        expected = (
-            f"a period of the day, and {day.path} has {count}: add the row of that period to it, and in version 1 also "
-            f"format,2 and current,1; in a folder, {voice.command('change', '--period')} does so (see "
-            "docs/FORMATS.md#from-version-1-to-version-2)"
+        expected = f"a period of the day, and {day.path} has {count}"
+        way = (
+            "add the row of that period to it, and in version 1 also format,2 and current,1; in a folder, "
+            f"{voice.command('change', '--period')} does so (see docs/FORMATS.md#from-version-1-to-version-2)"
         )
-        raise FileFault(fault.path, fault.line, fault.field, fault.found, expected) from None
+        raise FileFault(fault.path, fault.line, fault.field, fault.found, expected, way) from None
 
 
 def tell_change(report: Report, old: Block | None, new: Block, notes: Notes) -> None:
@@ -88,11 +92,11 @@ def waiting_after(
         found = pending.still_waiting(file, day, report, date)
         notes.warn(*found.warnings)
         lost = f"this was entered into {day.path}, which does not have it"
-        notes.warn(*(f"{own.place}: {lost}: {own.instruction.row}" for own in found.lost))
+        notes.warn(*(f"{waiting_row.place}: {lost}: {waiting_row.instruction.row}" for waiting_row in found.lost))
         waiting += found.waiting
-    not_due = (own for own in report.log if own.name == NOT_DUE)
-    places = ((own, f"{report.path}:{own.line}") for own in not_due)
-    return waiting + [pending.Waiting(own.record, own.instruction, place=place) for own, place in places]
+    not_due = (row for row in report.log if row.name == NOT_DUE)
+    places = ((row, f"{report.path}:{row.line}") for row in not_due)
+    return waiting + [pending.Waiting(row.record, row.instruction, place=place) for row, place in places]
 
 
 def enter_due(head: rules.Day, waiting: list[pending.Waiting], notes: Notes) -> list[pending.Waiting]:
@@ -107,16 +111,16 @@ def enter_due(head: rules.Day, waiting: list[pending.Waiting], notes: Notes) -> 
     return [waits for waits in waiting if waits.entered]
 
 
-def new_instructions(path: str | None, report: Report, count: int) -> Rows:
-    """The `do` rows of a file; so many stand before them."""
-    if path is None:
+def new_instructions(given: str | Rows | None, report: Report, count: int) -> Rows:
+    """The `do` rows of a file, or rows that were read; so many stand before them."""
+    if given is None:
         return Rows("", [], [])
-    return read_rows_of("do", path, faults.Reading(last="do", next_record=report.next_record, counts={"do": count}))
+    return read_rows_of("do", given, faults.Reading(last="do", next_record=report.next_record, counts={"do": count}))
 
 
 def tell_refused(report: Report, notes: Notes) -> None:
     """Tells what the day refused, and nobody enters again."""
-    for logged in (own for own in report.log if own.name == OUTSIDE):
+    for logged in (row for row in report.log if row.name == OUTSIDE):
         again = f"Add working days and enter it again: {logged.instruction.row}"
         notes.warn(f"{report.path}:{logged.line}: refused as {OUTSIDE}. {again}")
     others = sum(not logged.is_done and logged.name not in (NOT_DUE, OUTSIDE) for logged in report.log)
@@ -211,7 +215,7 @@ def next_text(asked: Next) -> NextText:
     left = len(waiting) - len(entered)
     if left and not path:
         name = "name a file for them by --pending or --pending-new"
-        raise WordsFault(f"instructions that are not due on {head.date}: {left}; {name}")
+        raise WordsFault(f"instructions that are not due on {head.date}: {left}", name, "; ")
     new = new_instructions(asked.do, report, len(entered))
     tell_repeated(Handed(new, day, report, waiting), asked.again, notes)
     tell_dates(new, head, notes)
@@ -224,7 +228,7 @@ def next_text(asked: Next) -> NextText:
     rows = [*heading_of(day, head.date, report.next_record, head.working_days)]
     for block in book.values():
         rows += block.rows
-    rows += [*(own.instruction.row for own in entered), *new.rows, "end", ""]
+    rows += [*(waits.instruction.row for waits in entered), *new.rows, "end", ""]
     made = (path, pending.text_of(waiting, pending.Made(head.date, report.next_record))) if path else None
     return NextText("\n".join(rows), made, notes)
 
@@ -233,7 +237,7 @@ def check_count(first: int, count: int) -> None:
     """Ends the command if the day would have more instructions than it may, or records above the last one."""
     most = faults.MOST["do"]
     if count > most:
-        more = f"and at most {most} may be: move some to another day"
-        raise WordsFault(f"the day would have {count} instructions, {more}")
+        many = f"the day would have {count} instructions, and at most {most} may be"
+        raise WordsFault(many, "move some to another day")
     if count and first + count - 1 > tables.MOST_RECORD:
         raise WordsFault(f"the day would need records above {tables.MOST_RECORD}")

@@ -35,12 +35,12 @@ def engine_of(named: str) -> Engine:
         return engine_by(LIBRARY, text_in(note), proof.build_of(lies, note))
     command = program or str(RUN)
     try:
-        said = subprocess.run([command, "--version"], capture_output=True, timeout=MOST_SECONDS, check=False).stdout
+        output = subprocess.run([command, "--version"], capture_output=True, timeout=MOST_SECONDS, check=False).stdout
     except (OSError, subprocess.TimeoutExpired):
         return Engine(PROGRAM)
     path = shutil.which(command) or command
     is_script = os.path.exists(path) and RUN.exists() and RUN.samefile(path)
-    told = said.decode("utf-8", "replace")
+    told = output.decode("utf-8", "replace")
     if is_script:
         # (it compares the program that it starts with the note of its build)
         started = BUILT if proof.says_proved(told) else UNPROVED_BUILD
@@ -62,17 +62,18 @@ def doubt_of_sum(row: str, named: str) -> str:
     """Of an engine that a line of the journal calls proved, that no note of a build here has its SHA-256, in words;
     nothing, if one has, or if the journal tells none. `named` is the program that the folder names, which has a note,
     too. (It may be the note of an older build that lacks.)"""
-    own = engine_named(row)
-    if own is None or not own.is_proved or own.sum in (UNKNOWN, *sums_here(named)):
+    engine = engine_named(row)
+    if engine is None or not engine.is_proved or engine.sum in (UNKNOWN, *sums_here(named)):
         return ""
-    return f"a program whose SHA-256 begins {own.sum[: proof.DIGITS]}, which no note of a build here has"
+    return f"a program whose SHA-256 begins {engine.sum[: proof.DIGITS]}, which no note of a build here has"
 
 
 def sums_here(named: str) -> Iterator[str]:
     """The SHA-256 of all programs and libraries that the notes of builds here say are proved."""
     programs = filter(None, (named and (shutil.which(named) or named), installed.program()))
     libraries = filter(None, (engine.LIBRARY, installed.library()))
-    notes = [NOTE_OF_BUILT, *map(installed.note_of, programs), *(own.with_name(NOTE_OF_LIBRARY) for own in libraries)]
+    of_libraries = (library.with_name(NOTE_OF_LIBRARY) for library in libraries)
+    notes = [NOTE_OF_BUILT, *map(installed.note_of, programs), *of_libraries]
     for told in map(text_in, notes):
         yield from proof.sums_in(told) if proof.says_proved(told) else ()
 
@@ -126,9 +127,9 @@ def by_program(program: str, text: bytes, whose: str) -> bytes:
     except OSError as error:
         raise of_file(name, f"it cannot be run: {error.strerror}") from None
     if run.returncode:
-        said = run.stderr.decode("utf-8", "replace").strip()
+        errors = run.stderr.decode("utf-8", "replace").strip()
         way = voice.either("--second has the second answer settle", "the second answer may settle")
-        more = f"without the program, {way}"
-        raise of_file(name, f"settle{whose} ends with status {run.returncode}: {said}\n{more}")
+        ends = f"settle{whose} ends with status {run.returncode}: {errors}"
+        raise of_file(name, ends, f"without the program, {way}", "\n")
     tell_once(run.stderr)
     return run.stdout

@@ -99,10 +99,10 @@ def log_of(days: Days, dates: Sequence[datetime.date], numbers: list[int]) -> di
 
 def excerpt(date: datetime.date, log: list[LogRow], accounts: dict[int, AccountOverTime]) -> PastDay:
     """A day with only some accounts, as far as their statements need it."""
-    before, book = books_of(str(date), {number: own.before(str(date)) for number, own in accounts.items()})
+    before, book = books_of(str(date), {number: account.before(str(date)) for number, account in accounts.items()})
     head = rules.Day(date, log[0].record if log else 1)
     day = DayText(before, 2, head, book, [row.instruction for row in log], 0, len(before))
-    after, own_book = books_of(str(date), {number: own.after(str(date)) for number, own in accounts.items()})
+    after, own_book = books_of(str(date), {number: account.after(str(date)) for number, account in accounts.items()})
     report = Report(after, log, log[-1].record + 1 if log else 1, own_book, {}, 0, len(after))
     return PastDay(day, report, None, [])
 

@@ -28,8 +28,8 @@ class Balance:
         """The line that tells a balance, and whether it is what is there at the end."""
         changes = f"+ {self.created:,} created - {self.deleted:,} deleted + {self.undeleted:,} undeleted"
         by_hand = f"{'+' if self.by_hand >= 0 else '-'} {abs(self.by_hand):,} by hand"
-        said = f"{kind}: {self.begin:,} before {changes} {by_hand} = {self.expected:,}"
-        return said if self.expected == end else f"{said}, but there are {end:,}"
+        sentence = f"{kind}: {self.begin:,} before {changes} {by_hand} = {self.expected:,}"
+        return sentence if self.expected == end else f"{sentence}, but there are {end:,}"
 
 
 def count_changes(report: Report, balances: dict[str, Balance]) -> None:

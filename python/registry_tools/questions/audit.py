@@ -3,6 +3,7 @@ from what was handed in. `./day audit --help` tells all that is looked at."""
 import contextlib
 import datetime
 import itertools
+import sqlite3
 from collections import Counter
 from collections.abc import Iterator
 from dataclasses import dataclass
@@ -11,11 +12,12 @@ from pathlib import Path
 from registry_tools import voice
 from registry_tools.errors import FileFault, WordsFault, shown
 from registry_tools.notes import counted
-from registry_tools.office import kept_heads, approvals, intake, settings
+from registry_tools.office import approvals, intake, settings
 from registry_tools.pairs import settlement
 from registry_tools.layout import SETTINGS
 from registry_tools.office.office import Office
 from registry_tools.progress import progress
+from registry_tools.questions import kept_heads, rewrites
 from registry_tools.questions.seams import Filed, Found, look_at_day, past_day_of
 from registry_tools.store import checks, daybook, events, file
 from registry_tools.store.checks import Again
@@ -47,7 +49,7 @@ def audit(path: Path, asked: Audit) -> Found:
     named, place = settings.read(path / SETTINGS), file.look_at(path)
     with file.telling(place), contextlib.closing(file.connected(place)) as db:
         file.must_be_tables(db, place)
-        store = Store(place, db, Texts(db, place), Events(place, []))
+        store = Store(place, db, Texts(db, place), Events(place))
         found = Found(Office(path, named, store), store.kept)
         found.add(*checks.faults_of(db, place))
         with found.adding():
@@ -60,6 +62,8 @@ def audit(path: Path, asked: Audit) -> Found:
         with found.adding():
             found.office.names()
         look_at_days(found, asked)
+        with found.adding():
+            found.rewrites = [*rewrites.told(found.office)]
         return found
 
 
@@ -96,30 +100,32 @@ def not_grown(found: Found, head: str, date: datetime.date | None) -> FileFault 
 
 def look_at_texts(found: Found, begin: datetime.date) -> None:
     """Whether each text has its sum. Those of the days that are read later are looked at there."""
-    later = {own for event in found.office.events.days if event.date >= begin for own in (event.text, event.report)}
+    filed = (event for event in found.office.events.days if event.date >= begin)
+    later = {digest for event in filed for digest in (event.text, event.report)}
     progress.tell("looking at the texts")
     with found.adding():
-        found.add(*found.office.store.texts.faults(later))
+        texts = found.office.store.texts
+        sums = [digest for (digest,) in texts.db.execute("SELECT sum FROM texts ORDER BY sum")]
+        found.add(*(texts.fault_of(digest) for digest in sums if digest not in later))
 
 
 def look_at_handed(found: Found) -> None:
     """Whether what was handed in has as many things as its event says, and what of it waits can be told."""
     store = found.office.store
-    for event in store.events.all:
-        if event.what == HANDED:
-            with found.adding(put_back()):
-                part = intake.part_by(store, event)
-                count = sum(1 for _ in intake.HandedIn(store, [part]).items_of(part))
-                if count > event.count or (count < event.count and not is_upgraded(store)):
-                    where = f"event {event.id}, count"
-                    found.add(FileFault(store.path, 0, where, event.count, f"{count}: so many stand in it"))
+    for event in store.events.named(HANDED):
+        with found.adding(put_back()):
+            part = intake.part_by(store, event)
+            count = sum(1 for _ in intake.HandedIn(store, [part]).items_of(part))
+            if count > event.count or (count < event.count and not is_upgraded(store)):
+                where = f"event {event.id}, count"
+                found.add(FileFault(store.path, 0, where, event.count, f"{count}: so many stand in it"))
     with found.adding(put_back()):
         approvals.handed_in_of(found.office)
 
 
 def is_upgraded(store: Store) -> bool:
     """Whether the file was made of a folder of an older version, which kept nothing of what was taken back."""
-    return bool(store.events.all) and store.events.all[0].what == events.UPGRADED
+    return [row.what for row in store.events.rows[:1]] == [events.UPGRADED]
 
 
 # Days.
@@ -135,13 +141,13 @@ def look_at_days(found: Found, asked: Audit) -> None:
     for event in progress.over(days, "looking at the days", len(days), step=1):
         if event.date < asked.begin:
             continue
-        own: Filed | None = None
+        filed: Filed | None = None
         with found.adding(found.mending(event.date)):
-            own = look_at_day(found, event, before, asked.by_program, asked.by_second)
-        if own and again and (before or event is days[0]):
+            filed = look_at_day(found, event, before, asked.by_program, asked.by_second)
+        if filed and again and (before or event is days[0]):
             with found.adding():
-                add_again(again, own, before)
-        before = own
+                add_again(again, filed, before)
+        before = filed
     if again:
         with found.adding():
             found.add(*again.faults())
@@ -149,9 +155,9 @@ def look_at_days(found: Found, asked: Audit) -> None:
             found.add(*strange_days(found))
 
 
-def add_again(again: Again, own: Filed, before: Filed | None) -> None:
+def add_again(again: Again, filed: Filed, before: Filed | None) -> None:
     """Makes the rows of a day once more."""
-    event, day, report = own
+    event, day, report = filed
     daybook.add_day(again.db, past_day_of(day, report, before), (event.text, event.report), "again.")
     again.db.execute("INSERT INTO again.compared VALUES (?)", (str(event.date),))
 
@@ -161,8 +167,8 @@ def strange_days(found: Found) -> Iterator[FileFault]:
     store, filed = found.office.store, {str(event.date) for event in found.office.events.days}
     for (date,) in store.db.execute("SELECT DISTINCT date FROM days ORDER BY date"):
         if date not in filed:
-            expected = f"the days of the events alone: {put_back()}"
-            yield FileFault(store.path, 0, "table days", shown(str(date)), expected)
+            expected = "the days of the events alone"
+            yield FileFault(store.path, 0, "table days", shown(str(date)), expected, put_back())
 
 
 # What is no difference, and has to be known.
@@ -181,8 +187,8 @@ def engines_told(history: Events, named: str) -> Iterator[str]:
 
 def clock_told(history: Events) -> Iterator[str]:
     """Where an event is earlier than the one before it. (What came from an older version lies before its upgrade.)"""
-    begun = history.all[0].at if history.all and history.all[0].what == events.UPGRADED else ""
-    for before, event in itertools.pairwise(event_since for event_since in history.all if event_since.at >= begun):
+    begun = next((row.at for row in history.behind(0, len(history.rows[:1])) if row.what == events.UPGRADED), "")
+    for before, event in itertools.pairwise(each for each in history.behind(0) if each.at >= begun):
         if event.at < before.at:
             yield f"a clock went back: event {event.id} is of {event.at}, and the one before it of {before.at}"
 
@@ -190,9 +196,16 @@ def clock_told(history: Events) -> Iterator[str]:
 def people_told(history: Events) -> Iterator[str]:
     """Where office.ini came to name other people, or other commands of four eyes: whoever may write it may do that, and
     nobody would see it later."""
-    for before, event in itertools.pairwise(history.of_days()):
+    for before, event in itertools.pairwise(history.named(*events.OF_DAYS)):
         if event.people != before.people:
             what = "other people or commands of four eyes" if before.people else "people, or commands of four eyes"
             named = what if event.people else "nobody any more"
             by = f"{event.what} by {event.who}, login {event.login}, at {event.at}"
             yield f"from here on {SETTINGS} names {named}: {event.date}, {by}"
+
+
+def has_changed(folder: Path, seen: Events) -> bool:
+    """Whether a command has added events since they were read."""
+    with contextlib.suppress(sqlite3.Error), contextlib.closing(file.connected(folder / file.NAME)) as db:
+        return file.last_line(db) != seen.last_line
+    return False

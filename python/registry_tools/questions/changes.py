@@ -24,7 +24,7 @@ def changes_of_pairs(pairs: Sequence[Pair]) -> Iterator[list[Cell]]:
 
 def changes_of(office: Office) -> Iterator[list[Cell]]:
     """The changes of a folder, those for the next day last."""
-    return (change_row(*own) for own in items_of(office))
+    return (change_row(*item) for item in items_of(office))
 
 
 def items_of(office: Office) -> Iterator[tuple[str, Item, str]]:
@@ -38,7 +38,7 @@ def items_of(office: Office) -> Iterator[tuple[str, Item, str]]:
 
 def approver_of(handed_in: HandedIn, item: Item) -> str:
     """The login that approved something that was handed in; nothing, if none did."""
-    return next((own.login for own in handed_in.approved if own.place == item.part.start), "")
+    return next((approval.login for approval in handed_in.approved if approval.place == item.part.start), "")
 
 
 def change_row(day: str, item: Item, approver: str) -> list[Cell]:

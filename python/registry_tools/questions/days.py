@@ -39,13 +39,13 @@ class Days:
     def first_text(self) -> dict[int, list[str]]:
         """The rows of each account in the text of the first day: no day before it says what accounts held."""
         found: dict[int, list[str]] = {}
-        own: list[str] = []
+        block: list[str] = []
         for row in rows_of(self.pairs[self.dates[0]].day).rows if self.pairs else ():
             if row.startswith("account,"):
-                own = found.setdefault(int(row.split(",", 2)[1]), [])
+                block = found.setdefault(int(row.split(",", 2)[1]), [])
             elif row.startswith(("do,", "end")):
                 break
-            own.append(row)
+            block.append(row)
         return found
 
     def first_rows(self, number: int) -> list[str]:
@@ -65,7 +65,7 @@ class Days:
 
     def last_until(self, date: datetime.date) -> datetime.date | None:
         """The last day up to a date."""
-        return max((own for own in self.pairs if own <= date), default=None)
+        return max((settled for settled in self.pairs if settled <= date), default=None)
 
     def day(self, date: datetime.date) -> "PastDay":
         """A day with its report, and without the day before it."""
@@ -97,7 +97,7 @@ def telling_of_tables(path: Path) -> Iterator[None]:
             yield
     except (LookupError, TypeError, ValueError, OverflowError) as error:
         why = f"its tables do not have what the days have ({type(error).__name__} {error})"
-        raise of_file(path, f"{why}: {voice.command('audit')} tells more") from error
+        raise of_file(path, why, f"{voice.command('audit')} tells more") from error
 
 
 def of_pairs(pairs: Sequence[Pair]) -> Days:

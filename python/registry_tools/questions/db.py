@@ -61,12 +61,12 @@ def days_there(path: str) -> list[tuple[str, str, str]]:
     """The days that a database has, with the sums of their texts, if it is there."""
     if not is_there(path):
         return []
-    own = Path(path)
+    file_path = Path(path)
     if isinstance(path, Elsewhere):
-        own = path.caller.aside / "there"
-        own.write_bytes(packed_bytes_of(path))
-    file.look_beside(own)
-    with contextlib.closing(sqlite3.connect(own)) as database:
+        file_path = path.caller.aside / "there"
+        file_path.write_bytes(packed_bytes_of(path))
+    file.look_beside(file_path)
+    with contextlib.closing(sqlite3.connect(file_path)) as database:
         if not database.execute(HAS_DAYS).fetchone():
             found = f"a file that {voice.command('db')} has not made"
             raise FileFault(path, 0, "", found, "one that it has made, or no such file")

@@ -64,7 +64,7 @@ def differences_of_days(first: Side, second: Side) -> list[Difference]:
     for key in dict.fromkeys([*was, *becomes]):
         if was.get(key) != becomes.get(key):
             found.append(Difference(*key, was.get(key), becomes.get(key)))
-    return sorted(found, key=lambda own: (WHAT.index(own.what), own.account or 0))
+    return sorted(found, key=lambda difference: (WHAT.index(difference.what), difference.account or 0))
 
 
 def accounts_of(side: Side) -> dict[int, tuple[str, ...]]:
@@ -78,7 +78,7 @@ def of_accounts(was: dict[int, tuple[str, ...]], becomes: dict[int, tuple[str, .
     for number in was.keys() | becomes.keys():
         old, new = was.get(number), becomes.get(number)
         if old is None or new is None:
-            one, other = (None if own is None else ",".join(own) for own in (old, new))
+            one, other = (None if fields is None else ",".join(fields) for fields in (old, new))
             yield Difference(ACCOUNT, number, WHOLE, one, other)
             continue
         pairs = zip(FIELDS, old, new)
@@ -106,15 +106,15 @@ def rules_of(side: Side) -> Iterator[tuple[str, str]]:
     """The rows before the accounts, each with its name, and the next record number."""
     periods = 0
     for row in rows_of(side.days.pairs[side.date].day).rows:
-        tag, _, said = row.partition(",")
+        tag, _, fields = row.partition(",")
         if tag in ("account", "do", "end"):
             return
         if tag == "day":
-            yield "next record", said.partition(",")[2]
+            yield "next record", fields.partition(",")[2]
         elif tag == "period":
             periods += 1
-            yield f"period {periods}", said
+            yield f"period {periods}", fields
         elif tag in SINGLE:
-            yield tag, said
+            yield tag, fields
         elif tag != "format":
-            yield f"{tag} {said}", "yes"
+            yield f"{tag} {fields}", "yes"

@@ -1,7 +1,9 @@
 """What is due from the last settled day on, and what is overdue, in the order of the dates. `./day due --help` tells
 what that is."""
+import bisect
 import contextlib
 import datetime
+import functools
 from collections import Counter
 from typing import Callable, Iterable, Iterator, NamedTuple
 
@@ -16,9 +18,10 @@ from registry_tools.office.office import Office
 from registry_tools.texts.namebook import Labels
 from registry_tools.pairs.next import about_date
 from registry_tools.office.waits import waits_of
-from registry_tools.pairs.compliance import NO_EMISSIONS, SETTLED, Stand, Standing, standings, years_over
+from registry_tools.pairs.compliance import AT, NO_EMISSIONS, SETTLED, Stand, Standing, standings, years_over
 from registry_tools.second import rules
 from registry_tools.showing import Cell
+from registry_tools.texts.blocks import Block
 from registry_tools.texts.day_text import DayText
 from registry_tools.texts.in_words import grouped, instruction_in_words
 from registry_tools.texts.report import Report
@@ -27,6 +30,8 @@ DEADLINE, OVERDUE, REVERSAL, LIST = "deadline", "overdue", "reversal ends", "lis
 WAITING, MISSED, CALENDAR = "waiting", "working day", "calendar ends"
 # What the holder of an account has to do of which so many allowances are missing for a year.
 SURRENDER_FOR = "Surrender {} allowances for {}"
+# Which field of the row of an entry, or of what is retired, is its date, by the first letter.
+DATE_OF = {"t": 2, "r": 5}
 # A year has deadlines in the next one: so those of these years, counted back from the last day, may still come.
 YEARS_BACK = (1, 0)
 
@@ -54,16 +59,17 @@ def last_shown(office: Office) -> datetime.date:
 
 def as_calendar(found: list[Due], until: datetime.date) -> str:
     """What is due as a calendar, which other programs take in."""
-    return calendar_of(f"Registry: what is due up to {until}", [(own.date, f"{own.what}: {own.text}") for own in found])
+    tasks = [(task.date, f"{task.what}: {task.text}") for task in found]
+    return calendar_of(f"Registry: what is due up to {until}", tasks)
 
 
 def folded(found: list[Due]) -> list[Due]:
     """What people are shown: of many working days that are over the first ones, and how many there are behind them."""
-    more = [own for own in found if own.what == MISSED][MOST_TOLD:]
+    more = [task for task in found if task.what == MISSED][MOST_TOLD:]
     if len(more) < 2:
         return found
     last = Due(more[0].date, MISSED, None, None, f"{len(more)} from here to {more[-1].date} are over, and not settled")
-    return [last if own is more[0] else own for own in found if own not in more[1:]]
+    return [last if task is more[0] else task for task in found if task not in more[1:]]
 
 
 def due_until(office: Office, until: datetime.date) -> list[Due]:
@@ -111,7 +117,7 @@ def deadlines_of_period(
     if over is not None:
         for standing in ask(over):
             late = of_standing(standing, dates.surrender_of(over), dates.emissions_of(over), names)
-            yield from (own._replace(what=OVERDUE) for own in late)
+            yield from (task._replace(what=OVERDUE) for task in late)
 
 
 def of_standing(
@@ -137,9 +143,7 @@ def of_rows(day: DayText, report: Report, names: Labels) -> Iterator[Due]:
     """When the rows of accounts change what may be done: the end of a reversal window, an entry that takes effect."""
     head = head_after(day, report)
     window = head.lags["reversal"]
-    for block in report.book.values():
-        if not any(row.startswith(("retired,", "trusted,")) for row in block.rows):
-            continue
+    for block in blocks_ahead(head, report):
         account = block.account()
         for other, takes_effect in account.trusted.items():
             if takes_effect > head.date:
@@ -151,12 +155,34 @@ def of_rows(day: DayText, report: Report, names: Labels) -> Iterator[Due]:
                 yield Due(end, REVERSAL, account.number, record, f"{row.what} of {grouped(row.amount)} {row.kind}")
 
 
+def blocks_ahead(head: rules.Day, report: Report) -> Iterator[Block]:
+    """The accounts of which an entry takes effect later, or a reversal window is not over: most are never read."""
+
+    @functools.cache
+    def is_ahead(word: str) -> bool:
+        date = datetime.date.fromisoformat(word)
+        end = head.due(date, head.lags["reversal"])
+        return date > head.date or (end is not None and end >= head.date)
+
+    rows, blocks, last = report.source.rows, [*report.book.values()], None
+    for place in range(report.first_account, report.first_totals) if blocks else ():
+        # (of the rows of accounts, only those of trusted lists and of what is retired begin with these letters)
+        field = DATE_OF.get(rows[place][0])
+        if field is None or not is_ahead(rows[place].split(",")[field]):
+            continue
+        block = blocks[bisect.bisect_right(blocks, place, key=AT) - 1]
+        # (a report may have some accounts alone)
+        if block is not last and block.index <= place < block.behind:
+            last = block
+            yield block
+
+
 def waiting(office: Office, names: Labels) -> Iterator[Due]:
     """The instructions that wait. One without a due day in the calendar is not due on a day that is known."""
-    for own in waits_of(office):
-        if own.due:
-            text = instruction_in_words(own.instruction, names.account)
-            yield Due(own.due, WAITING, own.instruction.first, own.record, text)
+    for waits in waits_of(office):
+        if waits.due:
+            text = instruction_in_words(waits.instruction, names.account)
+            yield Due(waits.due, WAITING, waits.instruction.first, waits.record, text)
 
 
 def of_calendar(office: Office) -> Iterator[Due]:
@@ -176,7 +202,7 @@ def missed_days(office: Office) -> list[datetime.date]:
     fault."""
     last, today = office.last(), datetime.date.today()
     with contextlib.suppress(FileFault):
-        return [own for own in composing.filed_calendar(office, last) if last.date < own < today] if last else []
+        return [date for date in composing.filed_calendar(office, last) if last.date < date < today] if last else []
     return []
 
 
@@ -200,12 +226,12 @@ def next_dates(office: Office, most: int) -> list[tuple[datetime.date, str]]:
     with contextlib.suppress(FileFault):
         calendar = composing.filed_calendar(office, last)
         found += [(calendar[-1], "the calendar ends")] if calendar else []
-    return sorted(own for own in found if own[0] >= last.date)[:most]
+    return sorted(pair for pair in found if pair[0] >= last.date)[:most]
 
 
 def waiting_dates(office: Office) -> Iterator[tuple[datetime.date, str]]:
     """On which days instructions that wait are due."""
-    count = Counter(own.due for own in waits_of(office) if own.due)
+    count = Counter(waits.due for waits in waits_of(office) if waits.due)
     for date, often in count.items():
         yield date, f"{counted(often, 'instruction that waits is', 'instructions that wait are')} due"
 

@@ -44,8 +44,8 @@ def found_words(told: Told) -> str:
         return "the end of the file"
     if told.fault.place:
         return shown(told.row[told.fault.place - 1])
-    said = shown(",".join(told.row))
-    return f"{len(told.row)} fields: {said}" if told.fault.cause == "fields" else said
+    row = shown(",".join(told.row))
+    return f"{len(told.row)} fields: {row}" if told.fault.cause == "fields" else row
 
 
 def lines_of(told: Told, text: Mended) -> Iterator[str]:

@@ -51,7 +51,7 @@ def asked_in_sql(asked: Find) -> tuple[list[str], dict[str, object]]:
         "account": asked.account, "holder": asked.holder, "user": asked.user, "act": asked.act, "waiting": NOT_DUE,
         "begin": str(asked.begin), "end": str(asked.end),
     }  # fmt: skip
-    return [*(own for own, is_asked in where.items() if is_asked), *SPAN], values
+    return [*(condition for condition, is_asked in where.items() if is_asked), *SPAN], values
 
 
 def accounts_meant(days: Days, asked: Find) -> set[int]:
@@ -68,7 +68,7 @@ def cells_of(logged_row: LogRow, accounts: Set[int]) -> Iterator[list[Cell]]:
     i = logged_row.instruction
     outcome = "done" if logged_row.is_done else logged_row.name
     start: list[Cell] = [str(logged_row.date), logged_row.record, str(i.proposed), i.proposer, i.approver, i.act]
-    for own in act_columns(i):
-        if not i.shares or not accounts or accounts & {i.first, own.to}:
-            named = (own.first, own.to, own.kind, own.amount, own.year, outcome, own.status)
+    for line in act_columns(i):
+        if not i.shares or not accounts or accounts & {i.first, line.to}:
+            named = (line.first, line.to, line.kind, line.amount, line.year, outcome, line.status)
             yield [*start, *(None if cell == "" else cell for cell in named)]

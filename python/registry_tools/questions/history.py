@@ -15,8 +15,8 @@ def history(days: Days, account: int, name_of: Callable[[object], str] = str) ->
     """The rows of an account, the changes of each day before its instructions; none, if there is no such account.
     `name_of` tells accounts in words. Raises FileFault if a report can't be read that names it."""
     rows = [*first_row(days, account), *hand_rows(days, account)]
-    for own in logged(days, [NAMING], {"account": account}):
-        rows += cells_of(own, account, name_of)
+    for log_row in logged(days, [NAMING], {"account": account}):
+        rows += cells_of(log_row, account, name_of)
     return sorted(rows, key=lambda row: (str(row[0]), row[1] is not None))
 
 
@@ -28,10 +28,11 @@ def first_row(days: Days, account: int) -> Iterator[list[Cell]]:
 
 def hand_rows(days: Days, account: int) -> Iterator[list[Cell]]:
     """The changes by hand of an account, with what it then held. It is new on the day before which it was on none."""
-    own = AccountOverTime(days, account)
+    over_time = AccountOverTime(days, account)
     for date, change in hand_changes(days.database, "account = ?", account):
-        is_new = date == own.dates[0] and change.row.startswith("account,")
-        yield [date, None, f"new account: {change.row}" if is_new else change.words, BY_HAND, *own.held_before(date)]
+        is_new = date == over_time.dates[0] and change.row.startswith("account,")
+        words = f"new account: {change.row}" if is_new else change.words
+        yield [date, None, words, BY_HAND, *over_time.held_before(date)]
 
 
 def cells_of(logged_row: LogRow, number: int, name_of: Callable[[object], str]) -> Iterator[list[Cell]]:

@@ -26,7 +26,7 @@ def of(handed_in: HandedIn) -> Iterator[TakenBack]:
     gone = {taken.place for taken in handed_in.taken}
     parts = [part for part in handed_in.parts if any(part.start <= place < part.end for place in gone)]
     items = {item.place: item for part in parts for item in handed_in.items_of(part)}
-    return (TakenBack(own, handed_in.part_at(own.place), items.get(own.place)) for own in handed_in.taken)
+    return (TakenBack(taken, handed_in.part_at(taken.place), items.get(taken.place)) for taken in handed_in.taken)
 
 
 def of_day(office: Office, date: datetime.date) -> Iterator[TakenBack]:
@@ -38,14 +38,14 @@ def of_day(office: Office, date: datetime.date) -> Iterator[TakenBack]:
 def of_all(office: Office) -> Iterator[tuple[str, TakenBack]]:
     """The same of all days, the next one last, each with its day."""
     for event in office.events.days:
-        yield from ((str(event.date), own) for own in of_day(office, event.date))
-    yield from ((NEXT, own) for own in of(approvals.handed_in_of(office)))
+        yield from ((str(event.date), taken) for taken in of_day(office, event.date))
+    yield from ((NEXT, taken) for taken in of(approvals.handed_in_of(office)))
 
 
 def files_of(office: Office, event: Event) -> Iterator[tuple[str, str, str, str]]:
     """What was handed in for a settled day: the name, what is left of it, who did so, and when."""
     filed = intake.for_a_day(office.store, event)
-    seconds = {own.place: own.login for own in filed.approved}
+    seconds = {approval.place: approval.login for approval in filed.approved}
     for part in filed.parts:
         left, who = len(filed.left_of(part)), who_and_second(office, part.who, part.login, seconds.get(part.start, ""))
         of = "" if left == part.count else f" of {part.count}"
@@ -54,7 +54,7 @@ def files_of(office: Office, event: Event) -> Iterator[tuple[str, str, str, str]
 
 def days_told(office: Office) -> Iterator[tuple[Event, str, str]]:
     """The days of a folder, the last one first, each with what settled it and whether others know of it, in words."""
-    released = {event.date for event in office.events.all if event.what == RELEASED}
+    released = {event.date for event in office.events.named(RELEASED)}
     last = max(released, default=datetime.date.min)
     for filed in reversed(office.events.days):
         yield filed, str(settler.engine_named(filed.engine) or "not told"), "yes" if filed.date <= last else "no"

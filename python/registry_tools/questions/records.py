@@ -95,7 +95,7 @@ def sums_after(database: sqlite3.Connection, account: int, date: datetime.date) 
     )
     sums = {(what, kind): amount for what, kind, amount in database.execute(gone, (account, since))}
     kinds = zip(rules.KINDS, held)
-    return {kind: Sums(own, *(sums.get((what, kind), 0) for what in RETIRED_AS)) for kind, own in kinds}
+    return {kind: Sums(amount, *(sums.get((what, kind), 0) for what in RETIRED_AS)) for kind, amount in kinds}
 
 
 def hand_changes(database: sqlite3.Connection, where: str, *values: object) -> Iterator[tuple[str, HandChange]]:

@@ -17,14 +17,14 @@ from registry_tools.office.office import Office
 from registry_tools.office.program import named_program
 from registry_tools.office.waits import waits_text
 from registry_tools.store import checks, file
-from registry_tools.store.events import Event
+from registry_tools.store.events import OF_DAYS, Event
 from registry_tools.store.past import PastDay
 from registry_tools.store.texts import put_back
 from registry_tools.texts.day_text import DayText, read_day
 from registry_tools.texts.follows import differences
 from registry_tools.texts.pending import read_pending
 from registry_tools.texts.report import Report, read_report
-from registry_tools.texts.rows import KeptText, bytes_of, text_of_rows
+from registry_tools.texts.rows import KeptText, Rows, bytes_of, text_of_rows
 
 # How what is found is mended.
 FILE_FIRST = "put the file back from a copy first, and audit again"
@@ -39,10 +39,10 @@ def close_again() -> str:
 
 
 class Given(NamedTuple):
-    """What was handed in for a day: the rows of the first text, if it is that, and a text of each kind."""
+    """What was handed in for a day: the rows of the first text, if it is that, and those of each kind."""
 
     first_rows: list[str] | None
-    contents: dict[str, bytes]
+    merged: dict[str, Rows]
 
 
 @dataclass
@@ -58,6 +58,8 @@ class Found:
     heads: str = ""
     # Whether the events are what they were: else days are not mended by commands.
     has_events: bool = True
+    # Who approved which office.ini, in words.
+    rewrites: list[str] = field(default_factory=list)
 
     def mending(self, _date: datetime.date) -> str:
         """How a difference of a day is mended."""
@@ -67,9 +69,9 @@ class Found:
         """What was handed in for a day."""
         filed = intake.for_a_day(self.office.store, event)
         if filed.first is None:
-            return Given(None, filed.contents())
+            return Given(None, filed.merged())
         rows = filed.rows(filed.first).rows
-        return Given(rows[: len(rows) - (rows[-1:] == ["end"])], filed.contents())
+        return Given(rows[: len(rows) - (rows[-1:] == ["end"])], filed.merged())
 
     def says(self) -> str:
         """What says when a day was filed, and with which records."""
@@ -83,8 +85,7 @@ class Found:
                 self.told.add(told)
                 self.faults.append(fault)
                 if mend and put_back() not in told:
-                    words = "expected" if fault.expected else "found"
-                    setattr(fault, words, f"{getattr(fault, words)}; {mend}")
+                    fault.add_way(mend)
 
     @contextlib.contextmanager
     def adding(self, mend: str = "") -> Iterator[None]:
@@ -104,8 +105,8 @@ class Found:
 
     def summary(self) -> str:
         """The last line, with the counts."""
-        there = self.office.events
-        counts = f"events {len(there.of_days())}, days {len(there.days)}, pairs read {self.pairs}{self.heads}"
+        events = self.office.events
+        counts = f"events {len(events.named(*OF_DAYS))}, days {len(events.days)}, pairs read {self.pairs}{self.heads}"
         return f"{voice.path(self.office.path)}: {counts}: {counted(len(self.faults), 'difference', 'differences')}"
 
 
@@ -123,14 +124,14 @@ def look_at_day(found: Found, event: Event, before: Filed | None, by_program: bo
     # (as long as nothing was found, the totals of the report before are the sums over its accounts)
     sums = past_day.sums() if before and not found.faults else None
     found.add(*differences(day, report, sums), mend=mend)
-    for name, there, expected in (
+    for name, found_there, expected in (
         ("date", day.head.date, event.date),
         ("first", day.head.next_record, event.first),
         ("next", report.next_record, event.next),
     ):
-        if there != expected:
+        if found_there != expected:
             says = f"{expected}, as {found.says()} says"
-            found.add(FileFault(day.path, day.line_of_tag("day"), name, there, says), mend=mend)
+            found.add(FileFault(day.path, day.line_of_tag("day"), name, found_there, says), mend=mend)
     look_at_seam(found, event, day, report, before)
     text = bytes_of(report.path) if by_program or by_second else b""
     if by_program:
@@ -151,8 +152,7 @@ def look_at_seam(found: Found, event: Event, day: DayText, report: Report, befor
         return
     waiting = found.text_of(event, "waiting")
     if given.first_rows is not None:
-        new = given.contents[intake.DO].decode("utf-8", "surrogateescape").splitlines()
-        text = text_of_rows([*given.first_rows, *new, "end"])
+        text = text_of_rows([*given.first_rows, *given.merged[intake.DO].rows, "end"])
         made = composing.NextDay(event.date, event.first, text, [], [], [])
     else:
         made = later_again(found, event, given, before)
@@ -170,7 +170,7 @@ def later_again(found: Found, event: Event, given: Given, before: Filed | None) 
     last, day, report = before
     name, waiting = found.text_of(event, "text").rpartition("/")[0], found.text_of(last, "waiting")
     try:
-        return composing.later_text(day, report, event.date, given.contents, waiting, name)
+        return composing.later_text(day, report, event.date, given.merged, waiting, name)
     except WordsFault as fault:
         raise of_file(name, str(fault)) from None
 

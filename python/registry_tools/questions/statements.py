@@ -38,7 +38,7 @@ def rows_by_account(day: DayText, report: Report, is_own: bool) -> dict[int, lis
         return {number: [logged.row for logged in rows] for number, rows in log_by_account(report).items()}
     users = {number: users_of(block) for number, block in day.book.items()}
     log = own_log(day, report)
-    return {number: [own_row(own, number, users[number]) for own in rows] for number, rows in log.items()}
+    return {number: [own_row(row, number, users[number]) for row in rows] for number, rows in log.items()}
 
 
 def statement_of(day: DayText, report: Report, number: int, rows: list[str], is_own: bool) -> str:

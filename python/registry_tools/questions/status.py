@@ -70,7 +70,7 @@ def faults_of_last(office: Office) -> Iterator[FileFault]:
     last, texts = office.last(), office.store.texts
     if last is None:
         return
-    sources = (event.text for event in office.events.all if event.what == "source" and event.base == last.base)
+    sources = (event.text for event in office.events.since(last.base) if event.what == "source")
     yield from filter(None, map(texts.fault_of, (last.text, last.report, last.waiting, last.waits, *sources)))
 
 
@@ -126,7 +126,7 @@ def last_lines(office: Office, handed_in: HandedIn) -> Iterator[tuple[str, str]]
 
 def waiting_lines(office: Office, names: Labels) -> Iterator[tuple[str, str]]:
     """What waits, by due day."""
-    waiting = sorted(waits_of(office), key=lambda own: (own.due is None, str(own.due)))
+    waiting = sorted(waits_of(office), key=lambda waits: (waits.due is None, str(waits.due)))
     yield "waiting", str(len(waiting)) if waiting else "nothing"
     for waits in waiting[:MOST_SHOWN]:
         row = waits.instruction.row
@@ -148,8 +148,8 @@ def handed_lines(handed_in: HandedIn, names: Labels) -> Iterator[tuple[str, str]
 
 def second_lines(office: Office, handed_in: HandedIn) -> Iterator[tuple[str, str]]:
     """What waits for another login, and what nobody could approve."""
-    for own in approvals.all_waiting(office, handed_in):
-        yield SECOND, own.line
+    for second in approvals.all_waiting(office, handed_in):
+        yield SECOND, f"{second.told}: {second.way}"
     for command in office.people.without_second():
         yield SECOND, f"{LOOK}: {command} waits for a second one, and office.ini names fewer than two who may give it"
 

@@ -14,7 +14,7 @@ from registry_tools.progress import progress
 from registry_tools.showing import as_csv
 from registry_tools.store.events import ALL, FILED, NO_DATE, Event
 from registry_tools.store.texts import FILES
-from registry_tools.texts.rows import sum_of
+from registry_tools.texts.rows import sum_of, text_of_rows
 
 SUMS, BY_HAND = "SHA256SUMS", "by-hand.csv"
 TOLD = ("at", "who", "login", "approved", "why", "change")
@@ -34,7 +34,7 @@ class Unpacked:
 def unpack(office: Office, folder: str, date: datetime.date | None = None) -> Unpacked:
     """Writes the texts of a folder, or of one of its days, into a folder that is not there yet, or empty. Raises
     WordsFault if there is no such day."""
-    filed = [event for event in office.events.all if event.what == FILED and event.text]
+    filed = [event for event in office.events.named(FILED) if event.text]
     wanted = [event for event in filed if date in (None, event.date)]
     if date is not None and not wanted:
         raise WordsFault(f"--day {date}: {office.path} has no such day")
@@ -48,7 +48,7 @@ def unpack(office: Office, folder: str, date: datetime.date | None = None) -> Un
             made.write_all("next", files_of_next(intake.for_the_next_day(office.store)))
             made.write("labels.csv", office.text_of_names())
             made.write("events.csv", as_csv(ALL, map(row_of, office.events.all)).encode("utf-8", "surrogateescape"))
-        made.new.write(SUMS, "".join(f"{own}  {name}\n" for name, own in made.sums.items()))
+        made.new.write(SUMS, "".join(f"{digest}  {name}\n" for name, digest in made.sums.items()))
     days = sum(event in office.events.days for event in wanted)
     return Unpacked(days, len(made.sums), office.events.head)
 
@@ -76,15 +76,15 @@ def files_of_day(office: Office, event: Event) -> Iterator[tuple[str, bytes]]:
     """The files of a settled day, with their contents."""
     texts, handed_in = office.store.texts, intake.for_a_day(office.store, event)
     for column, name in FILES.items():
-        own = getattr(event, column)
-        if own:
-            yield name, texts.get(own)
-    yield from ((f"{kind}.csv", content) for kind, content in handed_in.contents().items())
+        digest = getattr(event, column)
+        if digest:
+            yield name, texts.get(digest)
+    yield from ((f"{kind}.csv", text_of_rows(given.rows)) for kind, given in handed_in.merged().items())
     rows = by_hand_rows(handed_in)
     yield BY_HAND, as_csv(TOLD, rows).encode("utf-8", "surrogateescape")
     for number, part in enumerate(handed_in.parts, 1):
-        for own in part.sources:
-            yield f"tables/{number:04}-{plain(own.name, own.kind)}", texts.get(own.text)
+        for source in part.sources:
+            yield f"tables/{number:04}-{plain(source.name, source.kind)}", texts.get(source.text)
 
 
 def by_hand_rows(handed_in: HandedIn) -> Iterator[tuple[str, ...]]:
@@ -107,11 +107,11 @@ def files_of_next(handed_in: HandedIn) -> Iterator[tuple[str, bytes]]:
 def plain(name: str, kind: str) -> str:
     """The name of a table as that of a file, with the ending that tells what it is."""
     stem, ending = kind.partition(".")[::2]
-    own = PLAIN.sub("-", name.rpartition("/")[2]).strip(".-") or stem
-    return own if own.endswith(f".{ending}") else f"{own}.{ending}"
+    name_kept = PLAIN.sub("-", name.rpartition("/")[2]).strip(".-") or stem
+    return name_kept if name_kept.endswith(f".{ending}") else f"{name_kept}.{ending}"
 
 
 def row_of(event: Event) -> list[object]:
     """An event as a row: all its columns."""
-    own = {**vars(event), "date": "" if event.date == NO_DATE else str(event.date)}
-    return ["" if own[name] is None else own[name] for name in ALL]
+    values = {**vars(event), "date": "" if event.date == NO_DATE else str(event.date)}
+    return ["" if values[name] is None else values[name] for name in ALL]

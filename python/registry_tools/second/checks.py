@@ -82,16 +82,29 @@ def asked_for(i: Instruction) -> list[int]:
     return [i.first, *(to for to, _ in i.shares), *other]
 
 
+# The checks in their order, which is that of their functions below: each is asked only if all before it pass.
+CHECKS: list[Callable[[Asked], bool]] = []
+
+
+def check(fails: Callable[[Asked], bool]) -> Callable[[Asked], bool]:
+    """Makes a function the next check: it says whether the check fails."""
+    CHECKS.append(fails)
+    return fails
+
+
+@check
 def unknown_account(asked: Asked) -> bool:
     """Whether an account that is named does not exist."""
     return any(number not in asked.day.accounts for number in asked_for(asked.i))
 
 
+@check
 def same_account(asked: Asked) -> bool:
     """Whether an account is named twice."""
     return len({*asked_for(asked.i)}) < len(asked_for(asked.i))
 
 
+@check
 def wrong_account_kind(asked: Asked) -> bool:
     """Whether the act is not for this kind of account."""
     if asked.act in BETWEEN:
@@ -99,41 +112,49 @@ def wrong_account_kind(asked: Asked) -> bool:
     return asked.first.kind not in OF_KINDS.get(asked.act, HOLDERS)
 
 
+@check
 def source_status(asked: Asked) -> bool:
     """Whether the status of the first account does not allow the act."""
     return asked.act != "create" and asked.first.status not in NEEDS_STATUS.get(asked.act, NOT_CLOSED)
 
 
+@check
 def destination_status(asked: Asked) -> bool:
     """Whether an account that receives is closed."""
     return any(to.status == "closed" for to in ([asked.first] if asked.act == "create" else asked.receivers))
 
 
+@check
 def not_proposer(asked: Asked) -> bool:
     """Whether the proposer may not propose for the account."""
     return not asked.is_entitled(asked.i.proposer, "propose")
 
 
+@check
 def approval_missing(asked: Asked) -> bool:
     """Whether nobody approves what needs approval."""
     return asked.i.approver is None and not (asked.trusts() and asked.first.waiver)
 
 
+@check
 def same_representative(asked: Asked) -> bool:
     """Whether one user proposes and approves."""
     return asked.i.approver == asked.i.proposer
 
 
+@check
 def not_approver(asked: Asked) -> bool:
     """Whether the approver may not approve for the account."""
     return asked.i.approver is not None and not asked.is_entitled(asked.i.approver, "approve")
 
 
+@check
 def not_trusted(asked: Asked) -> bool:
     """Whether the transfer is to no trusted account, and the account makes no others."""
     return asked.act == "transfer" and not asked.trusts() and not asked.first.outside
 
 
+@check
 def outside_calendar(asked: Asked) -> bool:
     """Whether the calendar does not have the due day, or that of an entry of the list."""
     return asked.due() is None or (
@@ -141,42 +162,50 @@ def outside_calendar(asked: Asked) -> bool:
     )
 
 
+@check
 def not_due(asked: Asked) -> bool:
     """Whether the due day is still to come."""
     return known(asked.due()) > asked.day.date
 
 
+@check
 def kind_not_allowed(asked: Asked) -> bool:
     """Whether the account may not surrender this kind of allowance."""
     return asked.act == "surrender" and (asked.first.kind, asked.i.kind) not in asked.day.pairs
 
 
+@check
 def zero_amount(asked: Asked) -> bool:
     """Whether an amount is 0."""
     return 0 in asked.i.amounts
 
 
+@check
 def unknown_transaction(asked: Asked) -> bool:
     """Whether there is no such row to reverse."""
     return asked.act == "reverse" and asked.i.number not in asked.first.rows
 
 
+@check
 def already_reversed(asked: Asked) -> bool:
     """Whether the row is reversed already."""
     return asked.act == "reverse" and asked.row().is_reversed
 
 
+@check
 def window_closed(asked: Asked) -> bool:
     """Whether the window for a reversal is over."""
     last = asked.day.due(asked.row().date, asked.day.lags["reversal"]) if asked.act == "reverse" else None
     return last is not None and last < asked.day.date
 
 
+@check
 def not_enough(asked: Asked) -> bool:
     """Whether the account holds less than the amount."""
     return asked.act in LEAVES and asked.first.held[known(asked.i.kind)] < sum(asked.i.amounts)
 
 
+@check
 def holding_too_large(asked: Asked) -> bool:
     """Whether an account would hold too much."""
     if asked.act == "reverse":
@@ -187,6 +216,7 @@ def holding_too_large(asked: Asked) -> bool:
     return any(to.held[known(asked.i.kind)] + amount > MOST_HELD for to, (_, amount) in pairs)
 
 
+@check
 def retired_too_large(asked: Asked) -> bool:
     """Whether too much would be surrendered or deleted."""
     return (
@@ -195,11 +225,13 @@ def retired_too_large(asked: Asked) -> bool:
     )
 
 
+@check
 def rows_full(asked: Asked) -> bool:
     """Whether the account has no room for one more row."""
     return asked.act in RETIRES_AS and len(asked.first.rows) >= MOST_ROWS
 
 
+@check
 def would_become_non_compliant(asked: Asked) -> bool:
     """Whether the account would no longer have surrendered enough."""
     if asked.act != "reverse" or asked.row().what != "surrender":
@@ -220,44 +252,40 @@ def figure_before(asked: Asked, row: Row) -> int | None:
     return asked.day.figure(asked.first, max(years)) if years else None
 
 
+@check
 def already_trusted(asked: Asked) -> bool:
     """Whether the account is on the list already."""
     return asked.act == "trust" and asked.i.other in asked.first.trusted
 
 
+@check
 def not_on_list(asked: Asked) -> bool:
     """Whether the account is not on the list."""
     return asked.act == "untrust" and asked.i.other not in asked.first.trusted
 
 
+@check
 def list_full(asked: Asked) -> bool:
     """Whether the list has no room for one more account."""
     return asked.act == "trust" and len(asked.first.trusted) >= MOST_TRUSTED
 
 
+@check
 def year_outside_period(asked: Asked) -> bool:
     """Whether the year is in no period."""
     return asked.act in ("emissions", "assess") and asked.day.period_of(known(asked.i.year)) is None
 
 
+@check
 def amount_too_large(asked: Asked) -> bool:
     """Whether the emissions are too many tonnes."""
     return asked.act == "emissions" and known(asked.i.tonnes) > MOST_TONNES
 
 
+@check
 def emissions_missing(asked: Asked) -> bool:
     """Whether the account has no figure for the year."""
     return asked.act == "assess" and asked.day.figure(asked.first, known(asked.i.year)) is None
-
-
-# In their order: each is asked only if all before it pass.
-CHECKS: tuple[Callable[[Asked], bool], ...] = (
-    unknown_account, same_account, wrong_account_kind, source_status, destination_status, not_proposer,
-    approval_missing, same_representative, not_approver, not_trusted, outside_calendar, not_due, kind_not_allowed,
-    zero_amount, unknown_transaction, already_reversed, window_closed, not_enough, holding_too_large,
-    retired_too_large, rows_full, would_become_non_compliant, already_trusted, not_on_list, list_full,
-    year_outside_period, amount_too_large, emissions_missing,
-)  # fmt: skip
 
 
 def name_of(check: Callable[..., object]) -> str:

@@ -63,13 +63,12 @@ class Reading:
     def forms(self, tag: str) -> list[list[Field]]:
         """The fields that a row may have: of a surrender in version 2, also those with its period."""
         periods = len(self.last_years)
-        later_period = number("PERIOD", 2, periods)
         if tag == "current":
             return [[number("PERIOD", 1, periods)]]
         if tag == "correction":
-            return [[later_period, signed("FACTOR", MOST_CORRECTION, may_be_zero=False)]]
+            return [[number("PERIOD", 2, periods), signed("FACTOR", MOST_CORRECTION, may_be_zero=False)]]
         if tag == "retired" and self.version == 2:
-            return [FIELDS[tag], [*FIELDS[tag], later_period]]
+            return [FIELDS[tag], [*FIELDS[tag], number("PERIOD", 2, periods)]]
         return [FIELDS[tag]]
 
     def fields(self, tag: str, words: list[str]) -> list[Field]:
@@ -88,10 +87,10 @@ class Reading:
             raise Fault("fields", "at least 5 fields: " + form_of("do", [*PROPOSAL, act]) + ",..")
         if words[3] not in ACT_WORDS:
             raise Fault("word", act.expected, 5, act.name)
-        own = fields_of_act(words[3], len(words) - 4)
-        if own is None:
+        more = fields_of_act(words[3], len(words) - 4)
+        if more is None:
             raise Fault("fields", forms_of_act(words[3]))
-        return [*PROPOSAL, act, *own]
+        return [*PROPOSAL, act, *more]
 
     def key(self, tag: str, values: list[Any]) -> Key | None:
         """By what the rows of a list rise."""

@@ -116,9 +116,9 @@ def one_of(name: str, words: Sequence[str], cause: str = "word") -> Field:
     return Field(name, read, "one of the words " + ", ".join(words) if len(words) > 1 else words[0], words=words)
 
 
-def maybe(own: Field) -> Field:
+def maybe(field: Field) -> Field:
     """A field that may be empty."""
-    return Field(own.name, lambda word: word and own.read(word), f"nothing, or {own.expected}")
+    return Field(field.name, lambda word: word and field.read(word), f"nothing, or {field.expected}")
 
 
 def an_account(name: str) -> Field:
@@ -162,7 +162,7 @@ OF_ACTS = {
     **{name: an_account(name) for name in ("FROM", "TO", "ACCOUNT", "OTHER")}, "KIND": kind, "AMOUNT": any_amount,
     "NUMBER": record, "STATUS": status, "YEAR": year, "TONNES": any_amount.called("TONNES"),
 }  # fmt: skip
-ACTS = {own.word: [OF_ACTS[name] for name in own.fields.split()] for own in tables.ACTS}
+ACTS = {act.word: [OF_ACTS[name] for name in act.fields.split()] for act in tables.ACTS}
 FEWEST_SHARES, DISTRIBUTE = 1, tables.DISTRIBUTE
 ACT_WORDS = (*ACTS,)
 act = one_of("ACT", ACT_WORDS)
@@ -181,7 +181,7 @@ def fields_of_act(word: str, count: int) -> list[Field] | None:
 
 def form_of(tag: str, fields: Iterable[Field]) -> str:
     """A row as docs/FORMATS.md shows it."""
-    return ",".join([tag, *(own.name for own in fields)])
+    return ",".join([tag, *(field.name for field in fields)])
 
 
 def forms_of_act(word: str) -> str:

@@ -15,6 +15,15 @@ MOST_NAMED = 5
 FIRST = {act.word: act.fields.partition(" ")[0].lower() for act in ACTS}
 
 
+PASSING: dict[str, Callable[[Asked], Passing]] = {}
+
+
+def of_check(told: Callable[[Asked], Passing]) -> Callable[[Asked], Passing]:
+    """Makes a function what is told of a refusal: its name is that of its check behind `at_`."""
+    PASSING[checks.name_of(told).removeprefix("At")] = told
+    return told
+
+
 def passing(asked: Asked, name: str) -> Passing:
     """What the check of this name found, which refuses the instruction."""
     return PASSING[name](asked)
@@ -22,19 +31,20 @@ def passing(asked: Asked, name: str) -> Passing:
 
 def several(numbers: Iterable[object]) -> str:
     """Some of several, in words."""
-    own = [*map(str, numbers)]
-    more = f" and {len(own) - MOST_NAMED:,} more" if len(own) > MOST_NAMED else ""
-    return f"{', '.join(own[:MOST_NAMED])}{more}" if own else "nobody"
+    words = [*map(str, numbers)]
+    more = f" and {len(words) - MOST_NAMED:,} more" if len(words) > MOST_NAMED else ""
+    return f"{', '.join(words[:MOST_NAMED])}{more}" if words else "nobody"
 
 
 # Accounts.
 
 
+@of_check
 def at_unknown_account(asked: Asked) -> Passing:
     """Numbers that one slip makes of those that are there may be meant."""
     lacking = [number for number in checks.asked_for(asked.i) if number not in asked.day.accounts]
-    there = asked.day.accounts.keys() - {*checks.asked_for(asked.i)}
-    near = sorted(there & {*near_to(lacking[0])})
+    others = asked.day.accounts.keys() - {*checks.asked_for(asked.i)}
+    near = sorted(others & {*near_to(lacking[0])})
     meant = f": {several(near)} may be meant" if near else ""
     names = [name for name, number in account_fields(asked) if number == lacking[0]]
     return Passing(f"There is no account {several(lacking)}{meant}.", {names[0]: near[0]} if near else {})
@@ -57,16 +67,18 @@ def near_to(number: int) -> Iterator[int]:
         before, after = word[:place], word[place:]
         made = [f"{before}{digit}{rest}" for digit in "0123456789" for rest in {after, after[1:]}]
         made += [before + after[1:], before + after[1:2] + after[:1] + after[2:]]
-        yield from (int(own) for own in made if own and own[0] != "0" and own != word)
+        yield from (int(found) for found in made if found and found[0] != "0" and found != word)
 
 
+@of_check
 def at_same_account(asked: Asked) -> Passing:
     """The account that stands twice."""
-    there = checks.asked_for(asked.i)
-    twice = next(number for place, number in enumerate(there) if number in there[:place])
+    numbers = checks.asked_for(asked.i)
+    twice = next(number for place, number in enumerate(numbers) if number in numbers[:place])
     return Passing(f"Account {twice} stands there twice.")
 
 
+@of_check
 def at_wrong_account_kind(asked: Asked) -> Passing:
     """Between which kinds the act is."""
     first, act = asked.first, asked.act
@@ -74,14 +86,15 @@ def at_wrong_account_kind(asked: Asked) -> Passing:
         kinds = several(sorted(OF_KINDS.get(act, HOLDERS)))
         return Passing(f"Account {first.number} is of the kind {first.kind}; this act is for {kinds}.")
     pairs = BETWEEN[act]
-    own = sorted({to for of, to in pairs if of == first.kind})
-    if not own:
+    receivers = sorted({to for of, to in pairs if of == first.kind})
+    if not receivers:
         kinds = several(sorted({of for of, _ in pairs}))
         return Passing(f"Account {first.number} is of the kind {first.kind}; this act leaves {kinds}.")
-    wrong = [f"{to.number} ({to.kind})" for to in asked.receivers if to.kind not in own]
-    return Passing(f"From {first.kind} this act goes to {several(own)}, and not to {several(wrong)}.")
+    wrong = [f"{to.number} ({to.kind})" for to in asked.receivers if to.kind not in receivers]
+    return Passing(f"From {first.kind} this act goes to {several(receivers)}, and not to {several(wrong)}.")
 
 
+@of_check
 def at_source_status(asked: Asked) -> Passing:
     """Which status would do."""
     first = asked.first
@@ -90,10 +103,12 @@ def at_source_status(asked: Asked) -> Passing:
     return Passing(f"Account {first.number} is {first.status}{closed}; this act needs {wanted}.")
 
 
+@of_check
 def at_destination_status(asked: Asked) -> Passing:
     """Which of those that receive is closed."""
-    there = [asked.first] if asked.act == "create" else asked.receivers
-    return Passing(f"Account {several(to.number for to in there if to.status == 'closed')} is closed, and stays so.")
+    receivers = [asked.first] if asked.act == "create" else asked.receivers
+    closed = several(to.number for to in receivers if to.status == "closed")
+    return Passing(f"Account {closed} is closed, and stays so.")
 
 
 # Users.
@@ -103,33 +118,37 @@ def entitled(day: Day, account: Account, act: str, right: str) -> list[int]:
     """Who may propose, or approve, an act for an account."""
     if act in BY_ADMINISTRATORS:
         return sorted(day.admins)
-    return [user for user, own in sorted(account.users.items()) if own in (right, "both")]
+    return [user for user, has in sorted(account.users.items()) if has in (right, "both")]
 
 
 def of_users(asked: Asked, what: str, right: str, other: int | None) -> Passing:
     """Who has a right for the account, besides the other one of both."""
-    there = [user for user in entitled(asked.day, asked.first, asked.act, right) if user != other]
+    users = [user for user in entitled(asked.day, asked.first, asked.act, right) if user != other]
     whose = "this act" if asked.act in BY_ADMINISTRATORS else f"account {asked.first.number}"
     role = {"propose": "proposer", "approve": "approver"}[right]
-    found = f"{what}; for {whose} {several(there)} may {right}{'' if other is None else f', besides {other}'}."
-    return Passing(found, {role: there[0]} if there else {})
+    found = f"{what}; for {whose} {several(users)} may {right}{'' if other is None else f', besides {other}'}."
+    return Passing(found, {role: users[0]} if users else {})
 
 
+@of_check
 def at_not_proposer(asked: Asked) -> Passing:
     """Who may propose."""
     return of_users(asked, f"User {asked.i.proposer} may not propose", "propose", asked.i.approver)
 
 
+@of_check
 def at_approval_missing(asked: Asked) -> Passing:
     """Who may approve."""
     return of_users(asked, "Nobody approves", "approve", asked.i.proposer)
 
 
+@of_check
 def at_same_representative(asked: Asked) -> Passing:
     """Who may approve in place of who proposes."""
     return of_users(asked, f"User {asked.i.proposer} proposes and approves", "approve", asked.i.proposer)
 
 
+@of_check
 def at_not_approver(asked: Asked) -> Passing:
     """Who may approve."""
     return of_users(asked, f"User {asked.i.approver} may not approve", "approve", asked.i.proposer)
@@ -138,15 +157,17 @@ def at_not_approver(asked: Asked) -> Passing:
 # Lists, and days.
 
 
+@of_check
 def at_not_trusted(asked: Asked) -> Passing:
     """Whom the account trusts, and from when on."""
     first, to = asked.first, asked.receivers[0].number
-    there = [f"{other} from {date} on" for other, date in sorted(first.trusted.items())]
-    listed = f"its list has {several(there)}" if there else "its list is empty"
+    entries = [f"{other} from {date} on" for other, date in sorted(first.trusted.items())]
+    listed = f"its list has {several(entries)}" if entries else "its list is empty"
     found = f"Account {first.number} does not trust {to} on {asked.day.date}: {listed}."
     return Passing(found, date=first.trusted.get(to))
 
 
+@of_check
 def at_outside_calendar(asked: Asked) -> Passing:
     """Up to when the calendar goes."""
     days = asked.day.working_days
@@ -156,6 +177,7 @@ def at_outside_calendar(asked: Asked) -> Passing:
     return Passing(f"The calendar {last}; {lag + 1} working days from {since} on are needed.")
 
 
+@of_check
 def at_not_due(asked: Asked) -> Passing:
     """When it is due."""
     due = known(asked.due())
@@ -165,14 +187,16 @@ def at_not_due(asked: Asked) -> Passing:
 # Allowances.
 
 
+@of_check
 def at_kind_not_allowed(asked: Asked) -> Passing:
     """Which kinds the account may surrender."""
     kinds = sorted(kind for of, kind in asked.day.pairs if of == asked.first.kind)
-    own = several(kinds) if kinds else "nothing"
-    found = f"Account {asked.first.number} is of the kind {asked.first.kind}, which may surrender {own}."
+    may = several(kinds) if kinds else "nothing"
+    found = f"Account {asked.first.number} is of the kind {asked.first.kind}, which may surrender {may}."
     return Passing(found, {"kind": kinds[0]} if kinds else {})
 
 
+@of_check
 def at_zero_amount(asked: Asked) -> Passing:
     """At least 1."""
     place = asked.i.amounts.index(0) + 1
@@ -180,6 +204,7 @@ def at_zero_amount(asked: Asked) -> Passing:
     return Passing(f"{which} is 0; at least 1 passes.", {"amount" if place == 1 else f"amount{place}": 1})
 
 
+@of_check
 def at_not_enough(asked: Asked) -> Passing:
     """How much is there, and lacks."""
     held, wanted = asked.first.held[known(asked.i.kind)], sum(asked.i.amounts)
@@ -194,6 +219,7 @@ def room_for(asked: Asked, account: Account, kind: str, amount: int) -> Passing:
     return Passing(found, {"amount": room} if room and len(asked.i.amounts) == 1 else {})
 
 
+@of_check
 def at_holding_too_large(asked: Asked) -> Passing:
     """How much more the account may hold that would hold too much."""
     if asked.act == "reverse":
@@ -202,9 +228,10 @@ def at_holding_too_large(asked: Asked) -> Passing:
     if asked.act == "create":
         return room_for(asked, asked.first, kind, asked.i.amounts[0])
     pairs = [*zip(asked.receivers, asked.i.amounts)]
-    return next(room_for(asked, to, kind, own) for to, own in pairs if to.held[kind] + own > MOST_HELD)
+    return next(room_for(asked, to, kind, amount) for to, amount in pairs if to.held[kind] + amount > MOST_HELD)
 
 
+@of_check
 def at_retired_too_large(asked: Asked) -> Passing:
     """How much more may be surrendered or deleted."""
     what = RETIRES_AS[asked.act]
@@ -213,10 +240,11 @@ def at_retired_too_large(asked: Asked) -> Passing:
     return Passing(found, {"amount": room} if room else {})
 
 
+@of_check
 def at_rows_full(asked: Asked) -> Passing:
     """How many surrenders and deletions there are."""
-    there = len(asked.first.rows)
-    return Passing(f"Account {asked.first.number} has {there:,} surrenders and deletions, of {MOST_ROWS:,}.")
+    count = len(asked.first.rows)
+    return Passing(f"Account {asked.first.number} has {count:,} surrenders and deletions, of {MOST_ROWS:,}.")
 
 
 # Reversals.
@@ -232,28 +260,32 @@ def may_be_reversed(asked: Asked) -> list[tuple[int, Row]]:
 
 def of_rows(asked: Asked, what: str) -> Passing:
     """Which records may be reversed."""
-    there = may_be_reversed(asked)
-    told = [f"{number} ({row.what} of {row.amount:,} {row.kind} on {row.date})" for number, row in there]
+    rows = may_be_reversed(asked)
+    told = [f"{number} ({row.what} of {row.amount:,} {row.kind} on {row.date})" for number, row in rows]
     may = f"these may be reversed: {several(told)}" if told else "none may be reversed"
-    return Passing(f"{what}; of account {asked.first.number} {may}.", {"number": there[0][0]} if there else {})
+    return Passing(f"{what}; of account {asked.first.number} {may}.", {"number": rows[0][0]} if rows else {})
 
 
+@of_check
 def at_unknown_transaction(asked: Asked) -> Passing:
     """The record that is not there."""
     return of_rows(asked, f"There is no record {asked.i.number}")
 
 
+@of_check
 def at_already_reversed(asked: Asked) -> Passing:
     """The record that was reversed."""
     return of_rows(asked, f"Record {asked.i.number} was reversed before")
 
 
+@of_check
 def at_window_closed(asked: Asked) -> Passing:
     """When the window ended."""
     last = known(asked.day.due(asked.row().date, asked.day.lags["reversal"]))
     return of_rows(asked, f"Record {asked.i.number} could be reversed up to {last}")
 
 
+@of_check
 def at_would_become_non_compliant(asked: Asked) -> Passing:
     """How much may be taken back."""
     now = known(checks.figure_before(asked, asked.row()))
@@ -263,54 +295,50 @@ def at_would_become_non_compliant(asked: Asked) -> Passing:
 # Trusted lists, and years.
 
 
+@of_check
 def at_already_trusted(asked: Asked) -> Passing:
     """From when on it counts."""
     other = known(asked.i.other)
     return Passing(f"Account {other} is on the list of {asked.first.number} from {asked.first.trusted[other]} on.")
 
 
+@of_check
 def at_not_on_list(asked: Asked) -> Passing:
     """Who is on the list."""
-    there = sorted(asked.first.trusted)
-    found = f"The list of account {asked.first.number} has {several(there) if there else 'no account'}."
-    return Passing(found, {"other": there[0]} if there else {})
+    others = sorted(asked.first.trusted)
+    found = f"The list of account {asked.first.number} has {several(others) if others else 'no account'}."
+    return Passing(found, {"other": others[0]} if others else {})
 
 
+@of_check
 def at_list_full(asked: Asked) -> Passing:
     """How many are on the list."""
-    there = len(asked.first.trusted)
-    return Passing(f"The list of account {asked.first.number} has {there:,} accounts, of {MOST_TRUSTED:,}.")
+    count = len(asked.first.trusted)
+    return Passing(f"The list of account {asked.first.number} has {count:,} accounts, of {MOST_TRUSTED:,}.")
 
 
+@of_check
 def at_year_outside_period(asked: Asked) -> Passing:
     """Which years there are."""
     periods, year = asked.day.periods, known(asked.i.year)
-    near = min((own for first, last in periods for own in (first, last)), key=lambda own: abs(own - year))
+    near = min((edge for first, last in periods for edge in (first, last)), key=lambda edge: abs(edge - year))
     told = several(f"{first} to {last}" for first, last in periods)
     return Passing(f"{year} is in no period; they are {told}.", {"year": near})
 
 
+@of_check
 def at_amount_too_large(asked: Asked) -> Passing:
     """How many tonnes may be entered."""
     return Passing(f"{asked.i.tonnes:,} tonnes are more than {MOST_TONNES:,}.", {"tonnes": MOST_TONNES})
 
 
+@of_check
 def at_emissions_missing(asked: Asked) -> Passing:
     """Which years lack emissions."""
     year = known(asked.i.year)
     first = asked.day.periods[known(asked.day.period_of(year)) - 1][0]
-    lacking = [own for own in range(first, year + 1) if own not in asked.first.emissions]
-    there = [own for own in range(first, year) if asked.day.figure(asked.first, own) is not None]
-    known_years = f"; there is a figure up to {there[-1]}" if there else ""
+    lacking = [lacked for lacked in range(first, year + 1) if lacked not in asked.first.emissions]
+    years = [past for past in range(first, year) if asked.day.figure(asked.first, past) is not None]
+    known_years = f"; there is a figure up to {years[-1]}" if years else ""
     found = f"Account {asked.first.number} has no emissions for {several(lacking)}{known_years}."
-    return Passing(found, {"year": there[-1]} if there else {})
-
-
-PASSING: dict[str, Callable[[Asked], Passing]] = dict(zip(map(checks.name_of, checks.CHECKS), (
-    at_unknown_account, at_same_account, at_wrong_account_kind, at_source_status, at_destination_status,
-    at_not_proposer, at_approval_missing, at_same_representative, at_not_approver, at_not_trusted,
-    at_outside_calendar, at_not_due, at_kind_not_allowed, at_zero_amount, at_unknown_transaction, at_already_reversed,
-    at_window_closed, at_not_enough, at_holding_too_large, at_retired_too_large, at_rows_full,
-    at_would_become_non_compliant, at_already_trusted, at_not_on_list, at_list_full, at_year_outside_period,
-    at_amount_too_large, at_emissions_missing,
-)))  # fmt: skip
+    return Passing(found, {"year": years[-1]} if years else {})

@@ -103,7 +103,7 @@ def settle(day: Day, tells: bool = False) -> Iterator[Logged]:
             continue
         figure = carry_out(day, i, record)
         held = {number: dict(day.accounts[number].held) for number in touched(day, i)}
-        closing = "".join(f",{number},{own['general']},{own['aviation']}" for number, own in held.items())
+        closing = "".join(f",{number},{amounts['general']},{amounts['aviation']}" for number, amounts in held.items())
         yield Logged(f"{start},done,{'' if figure is None else figure}{closing}", touched(day, i), held, due)
 
 
@@ -145,12 +145,12 @@ def plan(day: Day) -> Iterator[str]:
     last: dict[int, int] = {}
     levels: list[int] = []
     for place, i in enumerate(day.instructions, 1):
-        own = touched(day, i)
-        arrows = sorted((last[number], number) for number in own if number in last)
+        accounts = touched(day, i)
+        arrows = sorted((last[number], number) for number in accounts if number in last)
         levels.append(1 + max((levels[tail - 1] for tail, _ in arrows), default=0))
         yield f"task,{place},{levels[-1]}"
         yield from (f"arrow,{tail},{place},{number}" for tail, number in arrows)
-        last.update(dict.fromkeys(own, place))
+        last.update(dict.fromkeys(accounts, place))
 
 
 def log_by_account(accounts: Iterable[int], log: Iterable[Logged]) -> dict[int, list[Logged]]:

@@ -34,8 +34,8 @@ def columns_of_act(act: str) -> list[str]:
 
 def cells_of_instruction(i: Instruction) -> list[str]:
     """The cells of an instruction, in the order of the columns."""
-    said = dict(zip([*PROPOSAL, *columns_of_act(i.act)], i.fields))
-    return [said.get(column, "") for column in INSTRUCTION_COLUMNS]
+    cells = dict(zip([*PROPOSAL, *columns_of_act(i.act)], i.fields))
+    return [cells.get(column, "") for column in INSTRUCTION_COLUMNS]
 
 
 def cells_of_account(block: Block) -> list[str]:
@@ -47,11 +47,11 @@ def cells_of_account(block: Block) -> list[str]:
     return [*block.rows[0].split(",")[1:], *(BETWEEN_ROWS.join(lists[tag]) for tag in LISTS)]
 
 
-def rows_of_account(said: dict[str, str]) -> Iterator[list[str]]:
+def rows_of_account(cells: dict[str, str]) -> Iterator[list[str]]:
     """The rows of an account of a table, each as its fields, with the column of each field."""
-    yield ["account", *(said.get(field, "") for field in ACCOUNT_FIELDS)]
+    yield ["account", *(cells.get(field, "") for field in ACCOUNT_FIELDS)]
     for tag, column in LISTS.items():
-        for row in said.get(column, "").split():
+        for row in cells.get(column, "").split():
             yield [tag, *row.split(BETWEEN_FIELDS)]
 
 

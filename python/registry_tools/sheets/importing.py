@@ -42,21 +42,21 @@ class Imported:
     @property
     def rows(self) -> list[str]:
         """The rows of a day text."""
-        return [row for own in self.made for row in own.rows]
+        return [row for each in self.made for row in each.rows]
 
     @property
     def lines(self) -> list[int]:
         """For each of them the row of the table."""
-        return [own.line for own in self.made for _ in own.rows]
+        return [each.line for each in self.made for _ in each.rows]
 
 
 def instructions_of(table: Table) -> Iterator[Made | FileFault]:
     """The `do` row of each row, or all that is wrong with it."""
-    for number, said in table.rows():
-        fields = columns.fields_of_instruction(table.with_always(said))
+    for number, cells in table.rows():
+        fields = columns.fields_of_instruction(table.with_always(cells))
         act = dict(fields).get("act", "")
         used = {name for name, _ in fields}
-        wrong = [*unused(table, number, said, act, used), *wrong_cells(table, number, fields)]
+        wrong = [*unused(table, number, cells, act, used), *wrong_cells(table, number, fields)]
         yield from wrong
         if not wrong:
             yield Made(number + 1, [",".join(["do", *(word for _, word in fields)])])
@@ -70,16 +70,16 @@ def wrong_cells(table: Table, number: int, fields: list[tuple[str, str]]) -> Ite
     except faults.Fault:
         # (the act is none, so nobody knows which other fields there are)
         expected = [*faults.PROPOSAL, faults.act]
-    for (name, word), own in zip(fields, expected):
+    for (name, word), of_field in zip(fields, expected):
         try:
-            own.read(word)
+            of_field.read(word)
         except faults.Fault:
-            yield told_of(table, number, name, shown(word), own.expected, word)
+            yield told_of(table, number, name, shown(word), of_field.expected, word)
 
 
-def unused(table: Table, number: int, said: dict[str, str], act: str, used: set[str]) -> Iterator[FileFault]:
+def unused(table: Table, number: int, cells: dict[str, str], act: str, used: set[str]) -> Iterator[FileFault]:
     """Cells with something that the act does not have."""
-    for name, word in said.items():
+    for name, word in cells.items():
         if word and name not in used and act in faults.ACT_WORDS:
             yield table.fault(number, name, shown(word), f"nothing: {act} has no {name.upper()}")
 
@@ -87,14 +87,15 @@ def unused(table: Table, number: int, said: dict[str, str], act: str, used: set[
 def told_of(table: Table, number: int, name: str, found: str, expected: str, word: str, field: str = "") -> FileFault:
     """What is wrong with a word of a cell, or with a field of it: what is expected of a date in the form that was told,
     and else how another form is told, also of an amount."""
-    said, way = expected, ""
+    wanted, way = expected, ""
     if "in plain digits" in expected and table.mapping.amounts is None and PARTED.fullmatch(word):
-        said, way = voice.either(expected, PLAIN_AMOUNT), voice.either("amounts of --mapping tells the separators", "")
+        wanted = voice.either(expected, PLAIN_AMOUNT)
+        way = voice.either("amounts of --mapping tells the separators", "")
     elif table.dates is not None:
-        said = expected.replace("YYYY-MM-DD", f"as {table.dates}")
+        wanted = expected.replace("YYYY-MM-DD", f"as {table.dates}")
     elif "date" in expected and re.fullmatch(r"[0-9]{1,4}[./-][0-9]{1,2}[./-][0-9]{1,4}", word):
         way = voice.either("--dates tells another form", "another form is chosen with the file")
-    fault = table.fault(number, name, found, f"{field}{said}")
+    fault = table.fault(number, name, found, f"{field}{wanted}")
     fault.way = way
     return fault
 
@@ -121,7 +122,7 @@ def with_dates(row: list[str], read_date: Callable[[str], str]) -> list[str]:
     return [read_date(word) if place in places else word for place, word in enumerate(row)]
 
 
-def wrong_rows(table: Table, number: int, said: dict[str, str], rows: list[list[str]]) -> Iterator[FileFault]:
+def wrong_rows(table: Table, number: int, cells: dict[str, str], rows: list[list[str]]) -> Iterator[FileFault]:
     """What is wrong with an account: each field of its rows, and else the first thing of each row that does not fit the
     others."""
     reading = reading_of_any_day()
@@ -136,7 +137,7 @@ def wrong_rows(table: Table, number: int, said: dict[str, str], rows: list[list[
                 reading.add(row)
             except faults.Fault as fault:
                 wrong = [fault]
-        yield from (fault_of(table, number, said, row, fault) for fault in wrong)
+        yield from (fault_of(table, number, cells, row, fault) for fault in wrong)
 
 
 def wrong_fields(reading: faults.Reading, row: list[str]) -> Iterator[faults.Fault]:
@@ -154,7 +155,7 @@ def wrong_fields(reading: faults.Reading, row: list[str]) -> Iterator[faults.Fau
             yield fault
 
 
-def fault_of(table: Table, number: int, said: dict[str, str], row: list[str], fault: faults.Fault) -> FileFault:
+def fault_of(table: Table, number: int, cells: dict[str, str], row: list[str], fault: faults.Fault) -> FileFault:
     """A fault of a row of an account, at the cell that has it."""
     if row[0] != "account":
         found = columns.BETWEEN_FIELDS.join(row[1:])
@@ -162,7 +163,7 @@ def fault_of(table: Table, number: int, said: dict[str, str], row: list[str], fa
         wrong = row[fault.place - 1] if fault.place else ""
         return told_of(table, number, columns.LISTS[row[0]], shown(found), fault.expected, wrong, name)
     name = columns.ACCOUNT_FIELDS[fault.place - 2] if fault.place >= 2 else "no"
-    word = said.get(name, "")
+    word = cells.get(name, "")
     return told_of(table, number, name, shown(word), fault.expected, word)
 
 
@@ -176,20 +177,20 @@ def imported(sheet: Sheet, are_accounts: bool | None, dates: str | None, mapping
     wrong = [*itertools.islice(table.wrong_heading(), limits.MOST_WRONG)]
     # (under a heading that is wrong, nobody knows what a cell is)
     made = [] if wrong else [*found_in((accounts_of if are_accounts else instructions_of)(table))]
-    wrong += [own for own in made if isinstance(own, FileFault)]
-    right = [] if wrong else [own for own in made if isinstance(own, Made)]
+    wrong += [each for each in made if isinstance(each, FileFault)]
+    right = [] if wrong else [each for each in made if isinstance(each, Made)]
     if are_accounts:
         # (as a day text has them)
-        right.sort(key=lambda own: int(own.rows[0].split(",")[1]))
+        right.sort(key=lambda each: int(each.rows[0].split(",")[1]))
     return Imported(are_accounts, right, wrong, sheet.hidden_told())
 
 
 def found_in(made: Iterator[Found | FileFault]) -> Iterator[Found | FileFault]:
     """What was found in a table, up to so many faults: nobody reads more, and each takes memory."""
     wrong = 0
-    for own in made:
-        yield own
-        wrong += isinstance(own, FileFault)
+    for each in made:
+        yield each
+        wrong += isinstance(each, FileFault)
         if wrong == limits.MOST_WRONG:
             return
 

@@ -138,6 +138,6 @@ def cell_value(of: dict[str, str], paragraphs: list[list[str]]) -> str:
         return of.get(f"{OFFICE}time-value", "")
     if kind == "boolean":
         return of.get(f"{OFFICE}boolean-value", "").upper()
-    said = of.get(f"{OFFICE}string-value") or text
+    value = of.get(f"{OFFICE}string-value") or text
     # (nobody saved what the formula gives: as text it is told as what it is)
-    return said or (of.get(f"{TABLE}formula", "").partition(":")[2] if not kind else "")
+    return value or (of.get(f"{TABLE}formula", "").partition(":")[2] if not kind else "")

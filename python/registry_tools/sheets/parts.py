@@ -47,22 +47,22 @@ class Parts:
             raise limits.too_much(path, "parts", limits.MOST_PARTS)
         self.archive = zipfile.ZipFile(io.BytesIO(content))
         self.names = self.archive.namelist()
-        known = set[str]()
+        names = set[str]()
         for name in self.names:
-            if name in known:
+            if name in names:
                 # (one program reads the first, and another one the last)
                 raise FileFault(path, 0, "part", f"{shown(name)} twice", "each part once")
-            known.add(name)
+            names.add(name)
 
     def read(self, name: str, elements: Elements) -> None:
         """Tells somebody all elements of a part. Raises KeyError if there is none."""
-        own = self.archive.getinfo(name)
-        if own.compress_type not in (zipfile.ZIP_STORED, zipfile.ZIP_DEFLATED):
-            raise FileFault(self.path, 0, shown(name), f"packing {own.compress_type}", NO_OTHER)
+        part = self.archive.getinfo(name)
+        if part.compress_type not in (zipfile.ZIP_STORED, zipfile.ZIP_DEFLATED):
+            raise FileFault(self.path, 0, shown(name), f"packing {part.compress_type}", NO_OTHER)
         parser = self.parser_for(name, elements)
         fed = 0
         try:
-            with self.archive.open(own) as stream:
+            with self.archive.open(part) as stream:
                 while piece := stream.read(PIECE):
                     self.bytes += len(piece)
                     if self.bytes > limits.MOST_BYTES:

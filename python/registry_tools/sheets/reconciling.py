@@ -44,9 +44,9 @@ def listed(sheet: Sheet, mapping: Mapping = Mapping()) -> Listed:
     table = Table(sheet, columns.ACCOUNT_COLUMNS, None, replace(mapping, columns={**ALSO, **mapping.columns}))
     wrong = [*table.wrong_heading(), *lacking(table)]
     found = [] if wrong else [*importing.found_in(accounts_in(table))]
-    wrong += [own for own in found if isinstance(own, FileFault)]
+    wrong += [each for each in found if isinstance(each, FileFault)]
     has = [name for name in OTHERS if name in table.columns or name in mapping.always]
-    return Listed(has, dict(own for own in found if not isinstance(own, FileFault)), wrong)
+    return Listed(has, dict(each for each in found if not isinstance(each, FileFault)), wrong)
 
 
 def lacking(table: Table) -> Iterator[FileFault]:
@@ -72,10 +72,10 @@ def accounts_in(table: Table) -> Iterator[tuple[int, Cells] | FileFault]:
             yield int(number), fields
 
 
-def wrong_cells(table: Table, row: int, said: Cells) -> Iterator[FileFault]:
+def wrong_cells(table: Table, row: int, cells: Cells) -> Iterator[FileFault]:
     """The cells that are not what a day text may have. An empty one says that the account has nothing there."""
     for name, field in FIELDS.items():
-        word = said.get(name, "")
+        word = cells.get(name, "")
         try:
             if word or name == NUMBER:
                 field.read(word)
@@ -85,16 +85,17 @@ def wrong_cells(table: Table, row: int, said: Cells) -> Iterator[FileFault]:
 
 def unlike_accounts(found: Listed, book: Known[int, Block]) -> list[Unlike]:
     """All in which a list and the accounts after a day are not alike, by account."""
-    return [own for number in sorted({*found.accounts, *book}) for own in of_account(found, number, book.get(number))]
+    numbers = sorted({*found.accounts, *book})
+    return [unlike for number in numbers for unlike in of_account(found, number, book.get(number))]
 
 
 def of_account(found: Listed, number: int, block: Block | None) -> Iterator[Unlike]:
     """What is not alike of an account that the list or the day has."""
-    said = found.accounts.get(number)
+    of_file = found.accounts.get(number)
     has = dict(zip(columns.ACCOUNT_COLUMNS, columns.cells_of_account(block))) if block else None
-    what = DIFFERS if said and has else ONLY_FILE if said else ONLY_DAY
+    what = DIFFERS if of_file and has else ONLY_FILE if of_file else ONLY_DAY
     for name in found.columns:
-        one, other = (None if cells is None else cells.get(name, "") for cells in (said, has))
+        one, other = (None if cells is None else cells.get(name, "") for cells in (of_file, has))
         if what != DIFFERS or as_compared(name, one) != as_compared(name, other):
             yield Unlike(what, number, name, one, other)
 

@@ -87,9 +87,9 @@ def not_decoded(path: str, content: bytes, encoding: str) -> FileFault | None:
     try:
         content.decode(encoding)
     except UnicodeDecodeError as error:
-        line, there = content.count(b"\n", 0, error.start) + 1, content[error.start]
-        as_windows = bytes([there]).decode("cp1252", "replace")
-        found = f"the byte {there:02X}, which is {shown(as_windows)} in Windows-1252 and nothing in UTF-8"
+        line, byte = content.count(b"\n", 0, error.start) + 1, content[error.start]
+        as_windows = bytes([byte]).decode("cp1252", "replace")
+        found = f"the byte {byte:02X}, which is {shown(as_windows)} in Windows-1252 and nothing in UTF-8"
         return FileFault(path, line, "", found, f"{SAVE_AS}, or in UTF-16 with a byte order mark")
     return None
 

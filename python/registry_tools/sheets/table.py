@@ -48,8 +48,8 @@ def date_reader(example: str | None) -> Callable[[str], str]:
 class Table:
     """The rows of a sheet under its columns."""
 
-    def __init__(self, sheet: Sheet, known: Sequence[str], dates: str | None, mapping: Mapping = Mapping()) -> None:
-        self.sheet, self.known, self.mapping = sheet, known, mapping
+    def __init__(self, sheet: Sheet, names: Sequence[str], dates: str | None, mapping: Mapping = Mapping()) -> None:
+        self.sheet, self.names, self.mapping = sheet, names, mapping
         if dates is not None and mapping.dates is not None:
             raise WordsFault(f"{voice.option('dates', dates)}: {mapping.path} says how dates are written already")
         self.dates = dates or mapping.dates
@@ -68,12 +68,12 @@ class Table:
     def wrong_heading(self) -> Iterator[FileFault]:
         """What is wrong with the names of the columns, and with cells that stand under none."""
         if not self.columns:
-            yield self.sheet.fault(0, 0, "heading", "nothing", f"the names of columns: {', '.join(self.known)}")
-        expected = f"one of {', '.join(self.known)}; {other_headings()}"
+            yield self.sheet.fault(0, 0, "heading", "nothing", f"the names of columns: {', '.join(self.names)}")
+        expected = f"one of {', '.join(self.names)}; {other_headings()}"
         for place, name in enumerate(self.columns):
             if self.mapping.column(self.headings[place]) == PASSED_OVER:
                 continue
-            if name not in self.known:
+            if name not in self.names:
                 yield self.sheet.fault(0, place, "heading", shown(self.headings[place]), expected)
                 expected = "one of the same names"
             elif name in self.columns[:place]:
@@ -90,9 +90,9 @@ class Table:
         """The rows that are not empty, each with its number, as cells by column: words, dates and amounts as a day text
         has them."""
         for number, cells in enumerate(self.sheet.rows[1:], 1):
-            said = {name: self.cell(name, cell) for name, cell in zip(self.columns, cells) if name != PASSED_OVER}
-            if any(said.values()):
-                yield number, said
+            values = {name: self.cell(name, cell) for name, cell in zip(self.columns, cells) if name != PASSED_OVER}
+            if any(values.values()):
+                yield number, values
 
     def cell(self, name: str, cell: str) -> str:
         """What a cell of a column says."""
@@ -101,9 +101,9 @@ class Table:
             return self.read_date(word)
         return self.read_amount(word) if AMOUNTS.fullmatch(name) else word
 
-    def with_always(self, said: dict[str, str]) -> dict[str, str]:
+    def with_always(self, cells: dict[str, str]) -> dict[str, str]:
         """The cells of a row, with what the mapping says of each row."""
-        return {**self.mapping.always, **said}
+        return {**self.mapping.always, **cells}
 
     def fault(self, number: int, name: str, found: str, expected: str) -> FileFault:
         """What is wrong in a column of a row; of a column that is not there, in the row."""

@@ -32,9 +32,9 @@ def workbook_sheet(path: str, content: bytes) -> Sheet:
     if book.link is None:
         raise ValueError("no sheet")
     parts.read("xl/_rels/workbook.xml.rels", links)
-    for name, own in (("xl/sharedStrings.xml", texts), ("xl/styles.xml", styles)):
+    for name, elements in (("xl/sharedStrings.xml", texts), ("xl/styles.xml", styles)):
         if name in parts.names:
-            parts.read(name, own)
+            parts.read(name, elements)
     target = links.targets[book.link]
     rows = Rows(path, texts.texts, styles, FIRST_DAYS[book.begins_1904])
     parts.read(target.lstrip("/") if target.startswith("/") else f"xl/{target}", rows)
@@ -96,8 +96,8 @@ class Styles(Elements):
         if number in DATE_FORMATS:
             return True
         # (it is looked through once)
-        own = self.formats.get(number, "")
-        is_so = bool(DAY_LETTERS.search(QUOTED.sub("", own).lower()))
+        pattern = self.formats.get(number, "")
+        is_so = bool(DAY_LETTERS.search(QUOTED.sub("", pattern).lower()))
         self.formats[number] = "d" if is_so else ""
         return is_so
 

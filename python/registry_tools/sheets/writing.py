@@ -59,15 +59,15 @@ def write_workbook(path: str, *sheets: Written) -> None:
         RELATION.format(number=number, kind="worksheet", target=f"worksheets/sheet{number}.xml") for number in numbers
     )
     book = RELATION.format(number=1, kind="officeDocument", target="xl/workbook.xml")
-    names = (BOOK_SHEET.format(number=number, name=escape(own.name)) for number, own in zip(numbers, sheets))
+    names = (BOOK_SHEET.format(number=number, name=escape(sheet.name)) for number, sheet in zip(numbers, sheets))
     parts = {
-        "[Content_Types].xml": CONTENT_TYPES.format(sheets="".join(SHEET_TYPE.format(number=own) for own in numbers)),
+        "[Content_Types].xml": CONTENT_TYPES.format(sheets="".join(SHEET_TYPE.format(number=each) for each in numbers)),
         "_rels/.rels": RELATIONS.format(relations=book),
         "xl/workbook.xml": BOOK.format(sheets="".join(names)),
         "xl/_rels/workbook.xml.rels": RELATIONS.format(relations=targets),
         **{
-            f"xl/worksheets/sheet{number}.xml": "".join(sheet_text(path, own.rows))
-            for number, own in zip(numbers, sheets)
+            f"xl/worksheets/sheet{number}.xml": "".join(sheet_text(path, sheet.rows))
+            for number, sheet in zip(numbers, sheets)
         },
     }
     content = io.BytesIO()

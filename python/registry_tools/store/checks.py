@@ -32,7 +32,7 @@ def answers(ask: Callable[[], Faults], path: Path) -> Faults:
 
 def unreadable(path: Path, error: object) -> FileFault:
     """That something of a file can't be told."""
-    return of_file(path, f"it cannot be read: {error}; {put_back()}")
+    return of_file(path, f"it cannot be read: {error}", put_back(), "; ")
 
 
 def of_head(db: sqlite3.Connection, path: Path) -> Faults:
@@ -42,14 +42,14 @@ def of_head(db: sqlite3.Connection, path: Path) -> Faults:
     for name, expected in told:
         found = db.execute(f"PRAGMA {name}").fetchone()[0]
         if found != expected:
-            yield FileFault(path, 0, name, found, f"{expected}: {put_back()}")
+            yield FileFault(path, 0, name, found, str(expected), put_back())
 
 
 def of_pages(db: sqlite3.Connection, path: Path) -> Faults:
     """What SQLite finds in its pages, and values of other types than their columns have."""
     for (told,) in db.execute(f"PRAGMA integrity_check({MOST_TOLD})"):
         if told != "ok":
-            yield FileFault(path, 0, "integrity_check", shown(str(told)), f"ok: {put_back()}")
+            yield FileFault(path, 0, "integrity_check", shown(str(told)), "ok", put_back())
 
 
 def of_statements(db: sqlite3.Connection, path: Path) -> Faults:
@@ -59,7 +59,7 @@ def of_statements(db: sqlite3.Connection, path: Path) -> Faults:
         statement, wanted = found_here.get(name, ""), expected.get(name, "")
         if statement != wanted:
             found, made = (shown(text) if text else f"no such {name[0]}" for text in (statement, wanted))
-            yield FileFault(path, 0, " ".join(name), found, f"{made}: {put_back()}")
+            yield FileFault(path, 0, " ".join(name), found, made, put_back())
 
 
 def made_of(script: str) -> dict[tuple[str, str], str]:
@@ -74,7 +74,7 @@ def made_of(script: str) -> dict[tuple[str, str], str]:
 
 def statements_in(db: sqlite3.Connection) -> dict[tuple[str, str], str]:
     """What made the tables of a database and all beside them, and of which table each is, by kind and name."""
-    before, db.text_factory = db.text_factory, told_text
+    before, db.text_factory = db.text_factory, lambda text: text.decode("utf-8", "replace")
     try:
         made = db.execute("SELECT type, name, tbl_name, coalesce(sql, '') FROM sqlite_master").fetchall()
     finally:
@@ -82,16 +82,11 @@ def statements_in(db: sqlite3.Connection) -> dict[tuple[str, str], str]:
     return {(str(kind), str(name)): f"{table}: {statement}" for kind, name, table, statement in made}
 
 
-def told_text(text: bytes) -> str:
-    """A text of a database, which somebody may have changed to what is none."""
-    return text.decode("utf-8", "replace")
-
-
 def of_keys(db: sqlite3.Connection, path: Path) -> Faults:
     """Rows that refer to what is not there."""
     for table, row, parent, _ in db.execute("PRAGMA foreign_key_check").fetchmany(MOST_TOLD):
         which = "a row" if row is None else f"row {row}"
-        yield FileFault(path, 0, f"table {table}", f"{which} of no row of {parent}", f"one of {parent}: {put_back()}")
+        yield FileFault(path, 0, f"table {table}", f"{which} of no row of {parent}", f"one of {parent}", put_back())
 
 
 # The tables of questions, which have to be what the texts of the days make.
@@ -124,9 +119,9 @@ class Again:
         where = of_days if table in daybook.BY_DATE else of_records
         here, made = (f"SELECT * FROM {place}.{table} WHERE {where.format(place)}" for place in ("main", "again"))
         strange, lacking = (
-            self.db.execute(f"{own} EXCEPT {other} LIMIT 1").fetchone() for own, other in ((here, made), (made, here))
+            self.db.execute(f"{one} EXCEPT {other} LIMIT 1").fetchone() for one, other in ((here, made), (made, here))
         )
         if strange or lacking:
-            found, row = (shown(", ".join(map(str, own))) if own else "no such row" for own in (strange, lacking))
-            expected = f"{row}, as the texts of the days have it: {put_back()}"
-            yield FileFault(self.path, 0, f"table {table}", found, expected)
+            found, row = (shown(", ".join(map(str, one))) if one else "no such row" for one in (strange, lacking))
+            expected = f"{row}, as the texts of the days have it"
+            yield FileFault(self.path, 0, f"table {table}", found, expected, put_back())

@@ -38,7 +38,7 @@ def copy_at(place: Path, path: Path) -> Copy:
     """What the copy at a place has. A fault names the path that it is to have."""
     with contextlib.closing(file.connected(place)) as db:
         history = events.read(db, path)
-        return Copy(len(history.of_days()), len(history.days), history.head)
+        return Copy(len(history.named(*events.OF_DAYS)), len(history.days), history.head)
 
 
 def must_be_earlier(store: Store, path: Path) -> None:
@@ -46,6 +46,6 @@ def must_be_earlier(store: Store, path: Path) -> None:
     file.look_beside(path)
     with contextlib.suppress(sqlite3.Error), contextlib.closing(file.connected(path)) as db:
         last_line = file.last_line(db)
-        if last_line in {event.line for event in store.events.all}:
+        if last_line in store.events.lines:
             return
     raise FileFault(path, 0, "", "a file that is no earlier copy of this folder", EARLIER)

@@ -91,7 +91,7 @@ def add_accounts(database: sqlite3.Connection, past_day: PastDay, place: str) ->
             fields = row.split(",")
             lists[fields[0]].append([number, *fields])
     # (a surrender of the first period may say no period)
-    lists["retired"] = [[*own, *[None] * (FIELDS_OF_RETIRED - len(own))] for own in lists["retired"]]
+    lists["retired"] = [[*each, *[None] * (FIELDS_OF_RETIRED - len(each))] for each in lists["retired"]]
     date = str(past_day.date)
     database.executemany(f"INSERT INTO {place}{ACCOUNT.format(date=date)}", accounts)
     for tag, rows in lists.items():

@@ -4,13 +4,14 @@ kept the line of one sees later whether the folder has grown from there.
 The line of an event is the SHA-256 of `json_array(before, what, at, ..)`, as SQLite writes it: of all columns but `id`
 and `line`. schema.sql says what each kind of event has."""
 import bisect
+import contextlib
 import datetime
 import json
 import sqlite3
-from collections.abc import Iterator
+from collections.abc import Iterable, Iterator
 from dataclasses import dataclass, fields, replace
 from pathlib import Path
-from typing import Any
+from typing import Any, NamedTuple
 
 from registry_tools.errors import FileFault, raise_first, shown, visible
 from registry_tools.store.texts import sum_of
@@ -81,7 +82,7 @@ def line_of(values: tuple[object, ...]) -> str:
 
 
 # The columns between `before` and `line`.
-COLUMNS = tuple(own.name for own in fields(Event))[:-3]
+COLUMNS = tuple(column.name for column in fields(Event))[:-3]
 ALL = ("id", "before", *COLUMNS, "line")
 # Those that are numbers.
 NUMBERS = ("id", "base", "of", "start", "count", "first", "next")
@@ -113,39 +114,80 @@ def event_of(row: sqlite3.Row | tuple[object, ...]) -> Event:
     return Event(**values)
 
 
-class Events:
-    """The events of a file, and what they say of its days."""
+class Row(NamedTuple):
+    """An event that nobody has asked for yet: `columns` has those between `id` and `line`, as JSON."""
 
-    def __init__(self, path: Path, events: list[Event]) -> None:
+    id: int
+    before: str
+    what: str
+    base: int
+    origin: int
+    columns: str
+    line: str
+
+    def event(self) -> Event:
+        """The event. Raises ValueError or TypeError if it can't be one."""
+        return event_of((self.id, *json.loads(self.columns), self.line))
+
+
+LINES = f"SELECT id, before, what, base, coalesce(of, id), json_array({', '.join(ALL[1:-1])}), line FROM events"
+
+
+class Events:
+    """The events of a file, and what they say of its days. An event is made of its row when somebody asks for it."""
+
+    def __init__(self, path: Path, rows: Iterable[Event | Row] = ()) -> None:
         self.path = path
-        self.all: list[Event] = []
+        self.rows: list[Event | Row] = []
         # The days that count, by rising date.
         self.days: list[Event] = []
         # The last event that filed or undid a day; 0 before the first one. And where all of them stand.
         self.base = 0
         self.changing: list[int] = []
         # What was approved or taken back of what was handed in, by the event that handed it in first.
-        self.looked_at: dict[int, list[Event]] = {}
-        for event in events:
-            self.append(event)
+        self.looked_at: dict[int, list[Event | Row]] = {}
+        for row in rows:
+            self.append(row)
 
-    def append(self, event: Event) -> None:
+    def append(self, row: Event | Row) -> None:
         """Takes up an event behind the others."""
-        if event.what in CHANGING:
-            self.base = event.id
-            self.changing.append(len(self.all))
-        if event.what == FILED:
-            self.days.append(event)
-        elif event.what == UNDONE and self.days:
+        self.rows.append(row)
+        if row.what in CHANGING:
+            self.base = row.id
+            self.changing.append(len(self.rows) - 1)
+        if row.what == FILED:
+            self.days.append(self.of_id(len(self.rows)))
+        elif row.what == UNDONE and self.days:
             self.days.pop()
-        elif event.what in (APPROVED, TAKEN) and event.of and event.of <= len(self.all):
-            self.looked_at.setdefault(self.of_id(event.of).origin, []).append(event)
-        self.all.append(event)
+        elif row.what in (APPROVED, TAKEN) and 0 < row.origin < len(self.rows):
+            self.looked_at.setdefault(self.rows[row.origin - 1].origin, []).append(row)
+
+    @property
+    def all(self) -> list[Event]:
+        """All of them."""
+        return [*self.behind(0)]
+
+    def behind(self, number: int, end: int | None = None) -> Iterator[Event]:
+        """Those behind one, up to another one or to the last."""
+        return map(self.of_id, range(number + 1, (len(self.rows) if end is None else end) + 1))
+
+    def named(self, *what: str) -> list[Event]:
+        """Those of some kinds."""
+        return [self.of_id(number) for number, row in enumerate(self.rows, 1) if row.what in what]
+
+    def last_line_of(self, *what: str) -> str:
+        """The line of the last one of some kinds."""
+        return next((row.line for row in reversed(self.rows) if row.what in what), "")
+
+    @property
+    def lines(self) -> list[str]:
+        """The lines of all of them."""
+        return [row.line for row in self.rows]
 
     @property
     def last_line(self) -> str:
         """The line behind which the next event stands."""
-        return self.all[-1].line if self.all else ""
+        return self.rows[-1].line if self.rows else ""
 
     @property
     def head(self) -> str:
@@ -155,17 +197,22 @@ class Events:
     @property
     def state(self) -> str:
         """The line of the last event that changed something: what is asked for builds on it."""
-        return next((event.line for event in reversed(self.all) if event.what not in ASKING), "")
+        return next((row.line for row in reversed(self.rows) if row.what not in ASKING), "")
 
     def since(self, base: int) -> list[Event]:
         """The events that stand behind an event that filed or undid a day, and before the next such one."""
-        # (events are counted from 1 on: so the number of one is the place behind it)
         end = bisect.bisect_left(self.changing, base)
-        return self.all[base : self.changing[end] if end < len(self.changing) else len(self.all)]
+        return [*self.behind(base, self.changing[end] if end < len(self.changing) else None)]
 
     def of_id(self, number: int) -> Event:
-        """The event with this number."""
-        return self.all[number - 1]
+        """The event with this number. Raises FileFault if its row can't be one."""
+        row = self.rows[number - 1]
+        if isinstance(row, Row):
+            try:
+                row = self.rows[number - 1] = row.event()
+            except (ValueError, TypeError) as error:
+                raise FileFault(self.path, 0, f"event {number}", shown(str(error)), f"an event: {BACK}") from None
+        return row
 
     def last(self) -> Event | None:
         """The last day that counts."""
@@ -174,7 +221,7 @@ class Events:
     def is_released(self, day: Event | None = None) -> bool:
         """Whether a day, or else the last one, may not be undone any more: it was released, or a later one was."""
         asked = day or self.last()
-        return asked is not None and any(own.what == RELEASED and own.date >= asked.date for own in self.all)
+        return asked is not None and any(event.date >= asked.date for event in self.named(RELEASED))
 
     def day_of(self, date: datetime.date) -> Event | None:
         """The day of this date, if it counts."""
@@ -182,18 +229,33 @@ class Events:
 
     def undone(self, date: datetime.date) -> Event | None:
         """The last event that took a day of this date back."""
-        return next((own for own in reversed(self.all) if (own.what, own.date) == (UNDONE, date)), None)
-
-    def of_days(self) -> list[Event]:
-        """The events of days and names, without those of the next day alone."""
-        return [event for event in self.all if event.what in OF_DAYS]
+        return next((event for event in reversed(self.named(UNDONE)) if event.date == date), None)
 
 
-def read(db: sqlite3.Connection, path: Path) -> Events:
-    """The events of a file. Ends the command at the first one that is not what it must be."""
-    events = Events(path, [])
-    raise_first(faults_of(db, events))
+def read(db: sqlite3.Connection, path: Path, first: Events | None = None) -> Events:
+    """The events of a file, of which the first ones may have been read before. Ends the command at the first one that
+    is not what it must be."""
+    for events in (Events(path, first.rows if first else ()), Events(path)):
+        with contextlib.suppress(sqlite3.DatabaseError, ValueError, TypeError):
+            if takes_up(db, events):
+                return events
+    raise_first(faults_of(db, events := Events(path)))
     return events
+
+
+def takes_up(db: sqlite3.Connection, events: Events) -> bool:
+    """Takes up what a file has behind these events, and says whether it has these, and each of the others is what it
+    must be. (SQLite writes what a line is the sum of in a fraction of the time that Python takes.)"""
+    count, last = len(events.rows), events.last_line
+    rows = [*map(Row._make, db.execute(f"{LINES} WHERE id >= ? ORDER BY id", (count or -(2**63),)).fetchall())]
+    for row in rows[1:] if count else rows:
+        if (row.id, row.before, row.line) != (len(events.rows) + 1, events.last_line, sum_of(row.columns.encode())):
+            return False
+        made: Event | Row = row.event() if row.what in (*CHANGING, RELEASED) else row
+        if does_not_follow(events, made):
+            return False
+        events.append(made)
+    return not count or [row.line for row in rows[:1]] == [last]
 
 
 def faults_of(db: sqlite3.Connection, events: Events) -> Iterator[FileFault]:
@@ -221,11 +283,13 @@ def faults_of(db: sqlite3.Connection, events: Events) -> Iterator[FileFault]:
         events.append(event)
 
 
-def does_not_follow(events: Events, event: Event) -> str:
+def does_not_follow(events: Events, event: Event | Row) -> str:
     """Why an event cannot stand behind those before it; nothing, if it can."""
     last = events.last()
     if event.base != events.base:
         return f"the base {events.base}"
+    if isinstance(event, Row):
+        return ""
     if event.what == FILED:
         if event.date == NO_DATE or (last and event.date <= last.date):
             return f"a day after {last.date}" if last else "a day"
@@ -248,8 +312,8 @@ def add(db: sqlite3.Connection, events: Events, event: Event) -> Event:
     """Adds an event behind the others, in a change of the file, and answers it as it is kept."""
     behind = replace(event, at=event.at or now(), base=events.base)
     values = events.last_line, *(value_of(name, getattr(behind, name)) for name in COLUMNS)
-    own = event_of((len(events.all) + 1, *values, line_of(values)))
+    added = event_of((len(events.rows) + 1, *values, line_of(values)))
     marks = ", ".join("?" * len(ALL))
-    db.execute(f"INSERT INTO events ({', '.join(ALL)}) VALUES ({marks})", (own.id, *values, own.line))
-    events.append(own)
-    return own
+    db.execute(f"INSERT INTO events ({', '.join(ALL)}) VALUES ({marks})", (added.id, *values, added.line))
+    events.append(added)
+    return added

@@ -31,7 +31,7 @@ APPLICATION, LAYOUT = 0x52454744, 2
 MODE, FOLDER_MODE = 0o600, 0o700
 OTHERS_WRITE = stat.S_IWGRP | stat.S_IWOTH
 # How long a reader waits for one that writes, and a command that changes for another one, in milliseconds.
-MOST_WAIT, SHORT_WAIT = 60_000, 200
+MOST_WAIT, SHORT_WAIT = 60_000, 2_000
 # The byte by which SQLite locks a file for those who write; and how the system tells of a lock (struct flock).
 RESERVED, FLOCK = 0x40000001, "hhqqi"
 # The files of which this process has asked that. They stay open: whoever closes one lets go of all locks that this
@@ -45,7 +45,7 @@ NAMES_ANOTHER = bytes.fromhex("d9d505f920a163d7")
 # it in them.)
 LOCKED = "database is locked"
 UNREADABLE = (sqlite3.DatabaseError, UnicodeError)
-BY_OTHERS = "the file of one login: who else works with the folder comes by its desk"
+BY_OTHERS = "the file of one login", "who else works with the folder comes by its desk"
 
 
 @dataclass
@@ -114,7 +114,7 @@ class Store:
             memory.executescript(f"{schema()} DROP TRIGGER events_follow; BEGIN")
             try:
                 self.db, self.texts = memory, Texts(memory, self.path, self.texts)
-                self.events = Events(self.path, self.events.all)
+                self.events = Events(self.path, self.events.rows)
                 yield
             finally:
                 self.db, self.texts, self.events = before
@@ -126,7 +126,7 @@ class Store:
             self.db.execute("BEGIN IMMEDIATE")
         except sqlite3.OperationalError as error:
             if str(error) == LOCKED:
-                raise of_file(self.path.parent, "another command changes it just now: try again") from None
+                raise of_file(self.path.parent, "another command changes it just now", "try again") from None
             raise
         finally:
             self.db.execute(f"PRAGMA busy_timeout = {MOST_WAIT}")
@@ -135,14 +135,15 @@ class Store:
     def read_anew(self) -> None:
         """Reads what others have done since the events were read."""
         if last_line(self.db) != self.events.last_line:
-            self.events = events.read(self.db, self.path)
+            self.events = events.read(self.db, self.path, self.events)
 
     def roll_back(self) -> None:
         """Takes back what a change has added."""
         if self.db.in_transaction:
             self.db.execute("ROLLBACK")
         steps.let_go()
-        self.events = Events(self.path, [own for own in self.events.all if own.id <= last_id(self.db)])
+        count = self.db.execute("SELECT count(*) FROM events").fetchone()[0]
+        self.events = Events(self.path, self.events.rows[:count])
 
     def is_changing(self) -> bool:
         """Whether another process has the lock of those who write. It is only asked for."""
@@ -163,11 +164,6 @@ def last_line(db: sqlite3.Connection) -> str:
     return str(row[0]) if row else ""
 
 
-def last_id(db: sqlite3.Connection) -> int:
-    """The number of the last event of a file."""
-    return int(db.execute("SELECT coalesce(max(id), 0) FROM events").fetchone()[0])
-
-
 @contextlib.contextmanager
 def telling(path: Path) -> Iterator[None]:
     """Has an error of SQLite in the block be a fault of this file."""
@@ -176,7 +172,7 @@ def telling(path: Path) -> Iterator[None]:
     except UNREADABLE as error:
         what = str(error)
         if what == LOCKED:
-            raise of_file(path, "other commands read or write it for more than a minute: try again") from None
+            raise of_file(path, "other commands read or write it for more than a minute", "try again") from None
         if "readonly" in what or "full" in what or "disk I/O" in what or "unable to open" in what:
             raise UnwrittenFault(path, 0, "", f"it cannot be written: {what}", "") from None
         raise of_file(path, f"it cannot be read or written: {what}") from None
@@ -189,10 +185,10 @@ def must_be_own(path: str | Path, about: os.stat_result) -> None:
     """Ends the command if a folder or file belongs to another login, or if others may write it."""
     from_whom = os.geteuid()
     if about.st_uid != from_whom:
-        raise FileFault(path, 0, "", "a file or folder of another login", BY_OTHERS)
+        raise FileFault(path, 0, "", "a file or folder of another login", *BY_OTHERS)
     if about.st_mode & OTHERS_WRITE:
         mode = oct(stat.S_IMODE(about.st_mode))[2:]
-        raise FileFault(path, 0, "", f"the mode {mode}: others may write it", f"no such right: chmod go-w {path}")
+        raise FileFault(path, 0, "", f"the mode {mode}: others may write it", "no such right", f"chmod go-w {path}")
 
 
 def look_at(folder: Path) -> Path:
@@ -205,9 +201,9 @@ def look_at(folder: Path) -> Path:
         about = os.lstat(path)
     except FileNotFoundError:
         if (folder / "journal.csv").exists():
-            older = f"a folder of version 1.1: {voice.command('upgrade', 'FOLDER')} makes the file of it"
-            raise FileFault(path, 0, "", "no such file", older) from None
-        raise of_file(path, "it is not there: put it back from a copy") from None
+            way = f"{voice.command('upgrade', 'FOLDER')} makes the file of it"
+            raise FileFault(path, 0, "", "no such file", "a folder of version 1.1", way) from None
+        raise of_file(path, "it is not there", "put it back from a copy") from None
     except OSError as error:
         raise of_file(path, f"it cannot be read: {error.strerror}") from None
     must_be_plain(path, about)
@@ -253,15 +249,16 @@ def connected(path: Path) -> sqlite3.Connection:
     return db
 
 
-def opened(folder: Path) -> Store:
-    """The file of a folder. Raises FileFault if it is none, belongs to somebody else, or was changed by other ways."""
+def opened(folder: Path, first: Events | None = None) -> Store:
+    """The file of a folder, of which somebody may have read the first events. Raises FileFault if it is none, belongs
+    to somebody else, or was changed by other ways."""
     path = look_at(folder)
     with telling(path):
         db = connected(path)
         try:
             must_be_one(db, path)
             must_be_tables(db, path)
-            return Store(path, db, Texts(db, path), events.read(db, path))
+            return Store(path, db, Texts(db, path), events.read(db, path, first))
         except BaseException:
             db.close()
             raise
@@ -305,14 +302,7 @@ def making(path: Path) -> Iterator[Store]:
             db.execute(f"PRAGMA application_id = {APPLICATION}")
             db.execute(f"PRAGMA user_version = {LAYOUT}")
             db.executescript(f"BEGIN IMMEDIATE;\n{schema()}")
-            yield Store(path, db, Texts(db, path), Events(path, []))
+            yield Store(path, db, Texts(db, path), Events(path))
             db.execute("COMMIT")
         finally:
             db.close()
-
-
-def has_changed(folder: Path, seen: Events) -> bool:
-    """Whether a command has added events since they were read."""
-    with contextlib.suppress(sqlite3.Error), contextlib.closing(connected(folder / NAME)) as db:
-        return last_line(db) != seen.last_line
-    return False

@@ -37,7 +37,7 @@ class PastDay:
     @functools.cached_property
     def changed(self) -> list[int]:
         """The accounts after the day that are others than after the day before; on a first day, all of them."""
-        day, report = self.day.others, self.report.others
+        day, report = self.day.others if self.before else None, self.report.others
         others = None if day is None or report is None else sorted({*day, *report} & self.report.book.keys())
         return unlike(self.before.book if self.before else {}, self.report.book, others)
 
@@ -47,10 +47,11 @@ class PastDay:
         if self.before is None:
             return sums_of(self.report.book_rows)
         old, new, told = self.before.book, self.report.book, sums_told(self.before)
-        gone = sums_of(row for own in {*self.changed, *old.keys() - new.keys()} & old.keys() for row in old[own].rows)
-        come = sums_of(row for own in self.changed for row in new[own].rows)
+        went = {*self.changed, *old.keys() - new.keys()} & old.keys()
+        gone = sums_of(row for number in went for row in old[number].rows)
+        come = sums_of(row for number in self.changed for row in new[number].rows)
         pairs = {kind: zip(told[kind], gone[kind], come[kind]) for kind in told}
-        return {kind: Sums(*(was - less + more for was, less, more in own)) for kind, own in pairs.items()}
+        return {kind: Sums(*(was - less + more for was, less, more in kinds)) for kind, kinds in pairs.items()}
 
     def changes(self) -> Iterator[HandChange]:
         """What people changed before this day."""

@@ -2,7 +2,7 @@
 import hashlib
 import sqlite3
 import zlib
-from collections.abc import Collection, Iterator
+from collections.abc import Iterator
 from dataclasses import dataclass
 from pathlib import Path
 
@@ -123,11 +123,5 @@ class Texts:
 
     def fault(self, text_sum: str, found: str) -> FileFault:
         """What is wrong with a text."""
-        expected = f"the text with the SHA-256 {text_sum}: {put_back()}"
-        return FileFault(self.path, 0, f"text {str(text_sum)[:12]}", found, expected)
-
-    def faults(self, without: Collection[str] = ()) -> Iterator[FileFault]:
-        """What is wrong with all texts, but those that somebody looks at anyway."""
-        for (text_sum,) in self.db.execute("SELECT sum FROM texts ORDER BY sum").fetchall():
-            if text_sum not in without and (fault := self.fault_of(text_sum)):
-                yield fault
+        expected = f"the text with the SHA-256 {text_sum}"
+        return FileFault(self.path, 0, f"text {str(text_sum)[:12]}", found, expected, put_back())

@@ -13,7 +13,7 @@ from registry_tools.texts.day_text import DayText
 from registry_tools.texts.report import Report
 from registry_tools.texts.runs import unlike
 
-ACCOUNT_FIELDS = ["tag", *(own.name for own in FIELDS["account"])]
+ACCOUNT_FIELDS = ["tag", *(field.name for field in FIELDS["account"])]
 NO_ROW = "no such row"
 GONE, NEW = "-", "+"
 # The row that is another one on each day by itself.
@@ -76,9 +76,9 @@ def differences_of_list(
     """The differences between the rows of one list before and after: those that are there behind, then those that
     went."""
     for key, (place, row) in after.items():
-        there, written = before.get(key, (None, ""))
+        line, written = before.get(key, (None, ""))
         if written != row:
-            yield Difference(tag, "", written, row, there, place)
+            yield Difference(tag, "", written, row, line, place)
     for key, (place, row) in before.items():
         if key not in after:
             yield Difference(tag, "", row, "", place, None)
@@ -130,8 +130,8 @@ def is_same(old: Block | None, new: Block) -> bool:
 
 def between(rules_before: Sequence[str], before: Report, day: DayText) -> Iterator[HandChange]:
     """All changes between a day and the next one. `rules_before` are the rows before the accounts of the day before."""
-    own = [[row for row in rows if not row.startswith(OF_THE_DAY)] for rows in (rules_before, day.heading)]
-    yield from rows_changed(None, *own)
+    headings = [[row for row in rows if not row.startswith(OF_THE_DAY)] for rows in (rules_before, day.heading)]
+    yield from rows_changed(None, *headings)
     for number in unlike(before.book, day.book):
         yield from account_changed(before, day, number)
 
@@ -159,9 +159,9 @@ class Rule:
 
 # The rule of each field of the `account` row, and of each list, whose field is empty.
 RULES_BY_HAND = {
-    (own.tag, field): Rule(frozenset(own.by_hand), tuple(own.acts.split()))
-    for own in tables.BY_HAND
-    for field in own.fields.split() or [""]
+    (by_hand.tag, field): Rule(frozenset(by_hand.by_hand), tuple(by_hand.acts.split()))
+    for by_hand in tables.BY_HAND
+    for field in by_hand.fields.split() or [""]
 }
 
 

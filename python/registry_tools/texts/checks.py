@@ -41,16 +41,16 @@ def without_marks(text: str, place: Callable[[str], str] = "docs/RULES.md{}".for
 
 def form_words(text: str) -> str:
     """A sentence of the table as forms and letters say it."""
-    said = NAMED.sub(lambda found: IN_FORMS[found[1]], text)
-    return re.sub(r"(^|[.] )([a-z])", lambda found: found[1] + found[2].upper(), said)
+    words = NAMED.sub(lambda found: IN_FORMS[found[1]], text)
+    return re.sub(r"(^|[.] )([a-z])", lambda found: found[1] + found[2].upper(), words)
 
 
 @functools.lru_cache(maxsize=None)
 def checks() -> dict[str, Check]:
     """All checks by their names, in the order in which they are asked."""
     return {
-        own.name: Check(code, own.name, without_marks(own.meaning), without_marks(own.advice))
-        for code, own in enumerate(tables.CHECKS, 1)
+        check.name: Check(code, check.name, without_marks(check.meaning), without_marks(check.advice))
+        for code, check in enumerate(tables.CHECKS, 1)
     }
 
 
@@ -58,16 +58,16 @@ def checks() -> dict[str, Check]:
 def form_checks() -> dict[str, Check]:
     """The same, as forms say it."""
     return {
-        own.name: Check(own.code, own.name, MEANING.get(own.name) or form_words(own.meaning), form_words(own.advice))
-        for own in checks().values()
+        name: Check(check.code, name, MEANING.get(name) or form_words(check.meaning), form_words(check.advice))
+        for name, check in checks().items()
     }
 
 
 @functools.lru_cache(maxsize=None)
 def desk_checks() -> dict[str, Check]:
     """The same, as the desk says it, which has a page of the rules."""
-    there = {own.name: form_words(without_marks(own.advice, in_rules)) for own in tables.CHECKS}
-    return {own.name: replace(own, advice=there[own.name]) for own in form_checks().values()}
+    advice = {check.name: form_words(without_marks(check.advice, in_rules)) for check in tables.CHECKS}
+    return {check.name: replace(check, advice=advice[check.name]) for check in form_checks().values()}
 
 
 def in_rules(section: str) -> str:
@@ -87,5 +87,5 @@ def advice_for(name: str) -> str:
 
 def meanings(names: Iterable[str]) -> dict[str, str]:
     """Of each of these checks, what it means and what to do, each once."""
-    there = checks_told()
-    return {name: f"{there[name].meaning} {there[name].advice}" for name in dict.fromkeys(names)}
+    by_name = checks_told()
+    return {name: f"{by_name[name].meaning} {by_name[name].advice}" for name in dict.fromkeys(names)}

@@ -69,10 +69,10 @@ class Explainer(faults.Reading):
         """The faults of the fields behind the first faulty one."""
         if not first.place or first.cause in ("tag", "order") or not self.has_fields(row):
             return
-        for place, (own, word) in enumerate(zip(self.fields(row[0], row[1:]), row[1:]), 2):
+        for place, (field, word) in enumerate(zip(self.fields(row[0], row[1:]), row[1:]), 2):
             if place > first.place:
                 try:
-                    faults.read_field(own, word, place)
+                    faults.read_field(field, word, place)
                 except faults.Fault as fault:
                     fault.earlier = ""
                     yield fault
@@ -97,7 +97,7 @@ class Explainer(faults.Reading):
                 self.before.pop(other, None)
                 self.counts.pop(other, None)
         if fault.cause == "order" and tag != "period":
-            values = [own.read(word) for own, word in zip(self.fields(tag, row[1:]), row[1:])]
+            values = [field.read(word) for field, word in zip(self.fields(tag, row[1:]), row[1:])]
             self.before[tag] = self.key(tag, values) or ()
         if tag == "period":
             self.last_years.append(max([*self.last_years, tables.FIRST_YEAR]))

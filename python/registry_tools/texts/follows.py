@@ -30,8 +30,8 @@ def differences(day: DayText, report: Report, sums: dict[str, Sums] | None = Non
     yield from differences_of_log(day, report)
     expected = day.head.next_record + len(day.instructions)
     if report.next_record != expected:
-        said = f"{expected}, the record number after the day"
-        yield FileFault(report.path, report.book_line, "NEXT", report.next_record, said)
+        wanted = f"{expected}, the record number after the day"
+        yield FileFault(report.path, report.book_line, "NEXT", report.next_record, wanted)
     replay = Replay(day, report)
     yield from replay.differences_of_log()
     yield from replay.differences_of_accounts()
@@ -107,8 +107,8 @@ class Replay:
             for kind, amount in held.items():
                 if amount != account.held[kind]:
                     field = f"{kind.upper()} of account {number}"
-                    said = f"{account.held[kind]}, which comes of the day before this row and of its act"
-                    yield FileFault(self.report.path, logged.line, field, amount, said)
+                    wanted = f"{account.held[kind]}, which comes of the day before this row and of its act"
+                    yield FileFault(self.report.path, logged.line, field, amount, wanted)
 
     def differences_of_accounts(self) -> Iterator[FileFault]:
         """Where the accounts behind the log are not those that it leaves."""

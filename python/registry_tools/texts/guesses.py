@@ -112,9 +112,9 @@ def of_fields(_fault: Fault, row: list[str], version: int) -> str:
 def of_number(fault: Fault, row: list[str], _version: int) -> str:
     """A guess at a field that is no number."""
     word = row[fault.place - 1]
-    said = by_pattern(NUMBERS, word)
-    if said:
-        return said
+    guess = by_pattern(NUMBERS, word)
+    if guess:
+        return guess
     if word != stripped(word):
         return UNSEEN
     if word and re.fullmatch("[0-9OoIl]+", word):
@@ -161,7 +161,7 @@ def of_date(fault: Fault, row: list[str], _version: int) -> str:
 
 def by_pattern(guesses: list[tuple[str, str]], word: str) -> str:
     """The guess of the first pattern that a word has; nothing if it has none."""
-    return next((said for pattern, said in guesses if re.fullmatch(pattern, word)), "")
+    return next((guess for pattern, guess in guesses if re.fullmatch(pattern, word)), "")
 
 
 def of_missing_day(year: int, month: int, day: int) -> str:

@@ -37,18 +37,18 @@ def new_periods(before: DayText, day: DayText) -> Iterator[FileFault]:
     """The periods that the day before does not have, as faults."""
     count = len(before.head.periods)
     for row in rows_with_tag(day, "period")[count:]:
-        said = f"{NO_ROW}: {before.path} has {count} periods"
-        yield FileFault(day.path, day.line_of(row), "period", shown(row), said)
+        wanted = f"{NO_ROW}: {before.path} has {count} periods"
+        yield FileFault(day.path, day.line_of(row), "period", shown(row), wanted)
 
 
 def lost_period(before: DayText, day: DayText) -> FileFault | None:
     """The first period of the day before that the day does not have, if there is one: no period may go."""
     old, new = before.head.periods, day.head.periods
     for place, period in enumerate(old):
-        there = new[place] if place < len(new) else None
-        if there != period:
-            line = day.line_of(rows_with_tag(day, "period")[place]) if there else day.line_of_tag("lags")
+        years = new[place] if place < len(new) else None
+        if years != period:
+            line = day.line_of(rows_with_tag(day, "period")[place]) if years else day.line_of_tag("lags")
             was = f"period {place + 1} of {before.path}, {period[0]} to {period[1]}"
             kept = f"{was}: periods are kept, and only added to"
-            return FileFault(day.path, line, "period", f"{there[0]} to {there[1]}" if there else NO_ROW, kept)
+            return FileFault(day.path, line, "period", f"{years[0]} to {years[1]}" if years else NO_ROW, kept)
     return None

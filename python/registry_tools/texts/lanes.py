@@ -90,11 +90,11 @@ def columns_of_lanes(lanes: list[list[int]], arrows: Iterable[tuple[int, int]]) 
     ready = deque((place, 0) for place, count in waits.items() if not count)
     least = dict.fromkeys(waits, 0)
     while ready:
-        place, own = ready.popleft()
-        column[place] = own
+        place, level = ready.popleft()
+        column[place] = level
         for head in behind[place]:
             waits[head] -= 1
-            least[head] = max(least[head], own + 1)
+            least[head] = max(least[head], level + 1)
             if not waits[head]:
                 ready.append((head, least[head]))
     return column if len(column) == len(waits) else None

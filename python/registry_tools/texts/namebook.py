@@ -82,15 +82,15 @@ class Labels:
 
     def has(self, kind: str) -> bool:
         """Whether something of this kind has a name."""
-        return any(own == kind for own, _ in self.named)
+        return any(other == kind for other, _ in self.named)
 
     def of_words(self, word: str, *kinds: str) -> list[Label]:
         """What is called so: what has exactly this name, or else what has the word in its name, whatever the
         capitals."""
-        own = [label for label in self.named.values() if label.kind in (kinds or KINDS)]
+        labels = [label for label in self.named.values() if label.kind in (kinds or KINDS)]
         sought = as_looked_up(word)
-        exact = [label for label in own if as_looked_up(label.name) == sought]
-        return exact or [label for label in own if sought and sought in as_looked_up(label.name)]
+        exact = [label for label in labels if as_looked_up(label.name) == sought]
+        return exact or [label for label in labels if sought and sought in as_looked_up(label.name)]
 
     def one(self, word: str, *kinds: str) -> Label:
         """The one that is called so. Raises WordsFault if nothing is, or several are."""
@@ -115,7 +115,8 @@ def in_sight(name: str) -> str:
 def is_joiner(name: str, place: int) -> bool:
     """Whether a letter only joins or parts those beside it, as some scripts need it."""
     beside = name[max(place - 1, 0) : place] + name[place + 1 : place + 2]
-    return name[place] in JOINERS and len(beside) == 2 and all(unicodedata.category(own)[0] in "LM" for own in beside)
+    is_between = len(beside) == 2 and all(unicodedata.category(letter)[0] in "LM" for letter in beside)
+    return name[place] in JOINERS and is_between
 
 
 def tidy(name: str) -> str:
@@ -149,22 +150,22 @@ def that_count(source: Rows) -> Labels:
 
 def rows_in(source: Rows) -> Iterator[Label]:
     """The rows of a file. Raises FileFault at the first one that is none."""
-    there: dict[tuple[str, str], Label] = {}
+    labels: dict[tuple[str, str], Label] = {}
     for index in range(len(source)):
         fields = source.fields(index)
         if NO_UTF_8.search(source.rows[index]):
-            raise source.fault(index, "row", shown(",".join(fields)), "UTF-8: save it so")
+            raise source.fault(index, "row", shown(",".join(fields)), "UTF-8", "save it so")
         if len(fields) not in (3, 6) or fields[0] not in KINDS or not (fields[2].strip() or fields[3:]):
             raise source.fault(index, "row", shown(",".join(fields)), FORM)
         label = Label(*fields)
         if not NUMBER.fullmatch(label.number):
             # (another spelling would stand for nobody)
             raise source.fault(index, "NUMBER", shown(label.number), "a number in plain digits, as a day text has it")
-        before = there.get((label.kind, label.number))
+        before = labels.get((label.kind, label.number))
         if before and not label.at:
             expected = f"another {label.kind}: this one is named {before.name}"
             raise source.fault(index, "NUMBER", shown(label.number), expected)
-        there[label.kind, label.number] = label
+        labels[label.kind, label.number] = label
         yield label
 
 

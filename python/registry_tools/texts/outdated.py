@@ -42,12 +42,12 @@ class Entries:
 
     def have_changed(self, number: int, first_year: int, year: int) -> bool | None:
         """Whether emissions up to a year changed behind its last assessment; None if the day does not tell."""
-        own = self.of.get(number)
-        if own is None:
+        entries = self.of.get(number)
+        if entries is None:
             return None
-        last = max((place for place, entry in enumerate(own) if entry[:2] == ("assess", year)), default=-1)
+        last = max((place for place, entry in enumerate(entries) if entry[:2] == ("assess", year)), default=-1)
         changes: dict[int, int] = defaultdict(int)
-        for later in own[last + 1 :]:
+        for later in entries[last + 1 :]:
             if first_year <= later.year <= year:
                 changes[later.year] += later.change
         if any(changes.values()):

@@ -31,9 +31,9 @@ def own_log(day: DayText, report: Report) -> dict[int, list[OwnRow]]:
     log: dict[int, list[OwnRow]] = {}
     for logged in report.log:
         for number in rules.named(logged.instruction):
-            own = own_row_of(logged, number, lambda other: users_of(day.book.get(other)))
-            if own and number in day.book:
-                log.setdefault(number, []).append(own)
+            row = own_row_of(logged, number, lambda other: users_of(day.book.get(other)))
+            if row and number in day.book:
+                log.setdefault(number, []).append(row)
     return log
 
 
@@ -49,8 +49,8 @@ def own_fields(i: rules.Instruction, number: int) -> list[str]:
     """The fields of an instruction, without users and amounts of others."""
     if i.act != "distribute" or i.first == number:
         return i.fields[3:]
-    own = [str(part) for to, amount in i.shares if to == number for part in (to, amount)]
-    return [i.act, str(i.first), rules.known(i.kind), *own]
+    shares = [str(part) for to, amount in i.shares if to == number for part in (to, amount)]
+    return [i.act, str(i.first), rules.known(i.kind), *shares]
 
 
 def own_instruction(i: rules.Instruction, number: int, users: set[str]) -> list[str]:
@@ -59,10 +59,10 @@ def own_instruction(i: rules.Instruction, number: int, users: set[str]) -> list[
     return [fields[0], *(user if user in users else "" for user in fields[1:3]), *own_fields(i, number)]
 
 
-def own_row(own: OwnRow, number: int, users: set[str]) -> str:
+def own_row(row: OwnRow, number: int, users: set[str]) -> str:
     """A log row as an account may see it."""
-    logged = own.logged
-    if not own.is_whole:
+    logged = row.logged
+    if not row.is_whole:
         return f"refused,{logged.record},{logged.date}"
     start = ["log", logged.record, logged.date, *own_instruction(logged.instruction, number, users)]
     if logged.is_done:

@@ -30,7 +30,7 @@ def of_years(years: Iterable[int]) -> str:
     centuries: dict[int, list[int]] = {}
     for year in years:
         centuries.setdefault(year // 100, []).append(year % 100)
-    return "|".join(f"{century}(?:{of_two_digits(own)})" for century, own in centuries.items())
+    return "|".join(f"{century}(?:{of_two_digits(digits)})" for century, digits in centuries.items())
 
 
 def of_two_digits(numbers: Iterable[int]) -> str:
@@ -38,7 +38,7 @@ def of_two_digits(numbers: Iterable[int]) -> str:
     units: dict[int, str] = {}
     for number in numbers:
         units[number // 10] = units.get(number // 10, "") + str(number % 10)
-    return "|".join(f"{tens}[{own}]" for tens, own in units.items())
+    return "|".join(f"{tens}[{digits}]" for tens, digits in units.items())
 
 
 @functools.lru_cache(maxsize=None)
@@ -48,18 +48,18 @@ def dates() -> str:
     for month in range(1, 13):
         months.setdefault(calendar.monthrange(tables.LAST_YEAR, month)[1], []).append(month)
     days = "|".join(
-        f"(?:{of_two_digits(own)})-(?:{of_two_digits(range(1, most + 1))})" for most, own in months.items()
+        f"(?:{of_two_digits(numbers)})-(?:{of_two_digits(range(1, most + 1))})" for most, numbers in months.items()
     )
     leap_years = of_years(filter(calendar.isleap, YEARS))
     return f"(?:{of_years(YEARS)})-(?:{days})|(?:{leap_years})-02-29"
 
 
-def of_field(own: faults.Field) -> str:
+def of_field(field: faults.Field) -> str:
     """The pattern of a field of numbers, words or a date."""
-    if own.words:
-        return "|".join(map(re.escape, own.words))
-    if own.numbers:
-        return "|".join(of_numbers(numbers) if numbers else NO_NUMBER for numbers in own.numbers)
+    if field.words:
+        return "|".join(map(re.escape, field.words))
+    if field.numbers:
+        return "|".join(of_numbers(numbers) if numbers else NO_NUMBER for numbers in field.numbers)
     return dates()
 
 
@@ -67,8 +67,8 @@ def of_row(tag: str, forms: list[list[faults.Field]]) -> str:
     """The pattern of a row, whose one group is its first field. If it has two forms, the second has more fields behind
     those of the first."""
     (first, *rest), *longer = forms
-    patterns = [f"{tag},({of_field(first)})", *(f"(?:{of_field(own)})" for own in rest)]
-    more = [f"(?:,(?:{of_field(own)}))?" for form in longer for own in form[len(forms[0]) :]]
+    patterns = [f"{tag},({of_field(first)})", *(f"(?:{of_field(field)})" for field in rest)]
+    more = [f"(?:,(?:{of_field(field)}))?" for form in longer for field in form[len(forms[0]) :]]
     return ",".join(patterns) + "".join(more)
 
 

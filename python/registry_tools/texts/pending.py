@@ -81,9 +81,9 @@ def chosen_path(old: str | None, new: str | None) -> str | None:
         both = f"--pending {old} is a file that is there, and --pending-new {new} one that is made"
         raise WordsFault(f"{both}: only one of them")
     if old and not Path(old).exists():
-        raise of_file(old, "it is not there, so nobody knows what waits: the first use says --pending-new FILE")
+        raise of_file(old, "it is not there, so nobody knows what waits", "the first use says --pending-new FILE")
     if new and Path(new).exists():
-        raise of_file(new, "it is there already: --pending FILE goes on with it")
+        raise of_file(new, "it is there already", "--pending FILE goes on with it")
     path = old or new
     if path:
         must_be_writable(path)
@@ -102,8 +102,8 @@ def waiting_of(source: Rows, index: int) -> Waiting:
         found = f"{len(fields)} fields in {shown(','.join(fields))}"
         raise source.fault(index, f"{fields[0]} row", found, f"at least {FEWEST_FIELDS} fields: {FORMS[fields[0]]}")
     record, day = fields[1:3]
-    for own, word in ((faults.maybe(RECORD), record), (faults.maybe(faults.date("DUE")), day)):
-        read_field(source, index, own, word)
+    for field, word in ((faults.maybe(RECORD), record), (faults.maybe(faults.date("DUE")), day)):
+        read_field(source, index, field, word)
     if fields[0] == ENTERED and not day:
         raise source.fault(index, "DATE", shown(day), "the day into whose text it was entered")
     check_instruction(source, index, fields[3:])
@@ -113,12 +113,12 @@ def waiting_of(source: Rows, index: int) -> Waiting:
     return Waiting(int(record) if record else None, rules.read_instruction(fields[3:]), entered, due, place)
 
 
-def read_field(source: Rows, index: int, own: faults.Field, word: str) -> Any:
+def read_field(source: Rows, index: int, field: faults.Field, word: str) -> Any:
     """What a field says. Raises FileFault if it is no such field."""
     try:
-        return own.read(word)
+        return field.read(word)
     except faults.Fault:
-        raise source.fault(index, own.name, shown(word), own.expected) from None
+        raise source.fault(index, field.name, shown(word), field.expected) from None
 
 
 def check_instruction(source: Rows, index: int, fields: list[str]) -> None:
@@ -138,7 +138,7 @@ def made_of(source: Rows) -> Made | None:
     if len(fields) != 1 + len(MADE_FIELDS):
         expected = f"{1 + len(MADE_FIELDS)} fields: {faults.form_of(MADE, MADE_FIELDS)}"
         raise source.fault(0, f"{MADE} row", f"{len(fields)} fields", expected)
-    date, next_record = (read_field(source, 0, own, word) for own, word in zip(MADE_FIELDS, fields[1:]))
+    date, next_record = (read_field(source, 0, field, word) for field, word in zip(MADE_FIELDS, fields[1:]))
     return Made(datetime.date.fromisoformat(date), next_record)
 
 
@@ -245,4 +245,4 @@ def waiting_before(file: PendingFile, day: DayText, report: Report) -> list[Wait
 
 def text_of(waiting: list[Waiting], made: Made) -> str:
     """The text of a pending file."""
-    return "\n".join([made.row(), *(own.row() for own in waiting), "end", ""])
+    return "\n".join([made.row(), *(waits.row() for waits in waiting), "end", ""])

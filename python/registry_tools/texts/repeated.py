@@ -25,10 +25,10 @@ class Handed:
     def places(self) -> dict[str, list[str]]:
         """Each row that was handed in before, with its places in words."""
         places: dict[str, list[str]] = {}
-        waits = {own.record for own in self.waiting}
+        waits = {waiting.record for waiting in self.waiting}
         by_itself = "where it waits and comes into the text of its due day by itself"
-        for own in self.waiting:
-            places.setdefault(own.instruction.row, []).append(f"{own.place}, {by_itself}")
+        for waiting in self.waiting:
+            places.setdefault(waiting.instruction.row, []).append(f"{waiting.place}, {by_itself}")
         for place, logged in enumerate(self.report.log):
             if logged.record not in waits:
                 where = f"{self.day.path}:{self.day.line_of_instruction(place)}, {outcome_of(logged)}"
@@ -46,8 +46,8 @@ def tell_repeated(handed: Handed, is_again: bool, notes: Notes) -> None:
     place = place_in(handed.day.do_rows, new.rows)
     if place is not None and len(new.rows) > 1:
         first = f"{handed.day.path}:{handed.day.line_of_instruction(place)}"
-        there = f"its {len(new.rows)} rows stand from {first} on, as they are"
-        notes.warn(f"{new.path}: {there}: was this file handed in before? {MEANT}")
+        which = f"its {len(new.rows)} rows stand from {first} on, as they are"
+        notes.warn(f"{new.path}: {which}: was this file handed in before? {MEANT}")
     elif lines:
         notes.warn(*first_ones(lines, f"rows of {new.path} that were handed in before"))
 
@@ -61,8 +61,8 @@ def repeated_lines(handed: Handed) -> Iterator[str]:
     for index, row in enumerate(new.rows):
         where = places.setdefault(row, [])
         if where:
-            there = "; and in ".join(where)
-            yield f"{new.path}:{new.line(index)}: this stands in {there}. So it comes twice. {MEANT}: {row}"
+            stands = "; and in ".join(where)
+            yield f"{new.path}:{new.line(index)}: this stands in {stands}. So it comes twice. {MEANT}: {row}"
         where.append(f"{new.path}:{new.line(index)}")
 
 

@@ -16,8 +16,9 @@ from registry_tools.texts.rows import Rows, rows_of
 
 @dataclass
 class LogRow:
-    """A log row: what was to be done, and what came of it. `figure` is what an assessment determined; `held` is what
-    each account that the instruction touched held behind it, if it was done."""
+    """A log row: what was to be done, and what came of it: if it was refused, the `code` and the `name` of the check.
+    `figure` is what an assessment determined; `held` is what each account that the instruction touched held behind it,
+    if it was done."""
 
     row: str
     line: int
@@ -104,19 +105,19 @@ class LogFields:
         self.reader, self.index, self.place = reader, index, 1
         self.fields = reader.source.fields(index)
 
-    def next(self, own: faults.Field) -> Any:
+    def next(self, field: faults.Field) -> Any:
         """The next field, which must be such a one."""
         if self.place >= len(self.fields):
-            raise self.reader.source.fault(self.index, "log row", f"no field {own.name}", own.expected)
+            raise self.reader.source.fault(self.index, "log row", f"no field {field.name}", field.expected)
         self.place += 1
-        return self.checked(own, self.place - 1)
+        return self.checked(field, self.place - 1)
 
-    def checked(self, own: faults.Field, place: int) -> Any:
+    def checked(self, field: faults.Field, place: int) -> Any:
         """What the field at a place says. Raises a fault if it is no such field."""
         try:
-            return own.read(self.fields[place])
+            return field.read(self.fields[place])
         except faults.Fault:
-            raise self.reader.source.fault(self.index, own.name, shown(self.fields[place]), own.expected) from None
+            raise self.reader.source.fault(self.index, field.name, shown(self.fields[place]), field.expected) from None
 
     def act_fields(self) -> list[str]:
         """The fields of the `do` row behind its tag."""
@@ -129,11 +130,11 @@ class LogFields:
             count = next((place for place, word in enumerate(rest) if word in ("done", "refused")), len(rest))
         else:
             count = len(faults.ACTS[act])
-        own = faults.fields_of_act(act, count)
-        if own is None:
+        fields = faults.fields_of_act(act, count)
+        if fields is None:
             found = f"{count} fields behind distribute"
             raise self.reader.source.fault(self.index, "log row", found, faults.forms_of_act(act))
-        for each in own:
+        for each in fields:
             self.next(each)
         return self.fields[begun : self.place]
 
@@ -175,7 +176,7 @@ def written_row(source: Rows, index: int, tag: str, fields: list[faults.Field]) 
         expected = f"{len(fields) + 1} fields: {faults.form_of(tag, fields)}"
         raise source.fault(index, f"{tag} row", f"{len(words)} fields", expected)
     row = LogFields(Reader(source, faults.Reading()), index)
-    return [row.checked(own, place) for place, own in enumerate(fields, 1)]
+    return [row.checked(field, place) for place, field in enumerate(fields, 1)]
 
 
 def read_report(path: str | Path, day: DayText | None = None) -> Report:

@@ -56,9 +56,9 @@ class Rows:
         """The fields of a row."""
         return self.unplain.get(index) or self.rows[index].split(",")
 
-    def fault(self, index: int, name: str, found: str, expected: str) -> FileFault:
+    def fault(self, index: int, name: str, found: str, expected: str, way: str = "") -> FileFault:
         """What is wrong with a row of another text than a day text, for somebody who has the file open."""
-        return FileFault(self.path, self.line(index), name, found, expected)
+        return FileFault(self.path, self.line(index), name, found, expected, way)
 
 
 class KeptText(str):
@@ -112,8 +112,8 @@ def unpacked(path: str | Path, content: bytes, most: int = MOST_TEXT) -> bytes:
     if Path(path).suffix == ".gz":
         content = unzipped(path, content, most)
     if content.startswith(WORKBOOKS):
-        expected = "a text: let the spreadsheet save the table as CSV in UTF-8"
-        raise FileFault(path, 0, "", "a workbook of a spreadsheet", expected)
+        way = "let the spreadsheet save the table as CSV in UTF-8"
+        raise FileFault(path, 0, "", "a workbook of a spreadsheet", "a text", way)
     return content
 
 

@@ -28,24 +28,25 @@ class Run(NamedTuple):
     def add_to(self, book: dict[int, Block], source: Rows) -> None:
         """Adds those that are the same to the book of their text."""
         shift = self.shift
-        for own in self.same:
-            book[own.number] = Block(own.number, source, own.index + shift, own.count)
+        for block in self.same:
+            book[block.number] = Block(block.number, source, block.index + shift, block.count)
 
     def places(self) -> list[tuple[int, int]]:
         """The places of each of its accounts: of the first row, and of the row behind it."""
-        return [(own.index + self.shift, own.behind + self.shift) for own in self.same] or [(self.start, self.behind)]
+        same = [(block.index + self.shift, block.behind + self.shift) for block in self.same]
+        return same or [(self.start, self.behind)]
 
 
 def equal_rows(rows: Sequence[str], first: int, others: Sequence[str], place: int) -> int:
     """How many rows are equal from two places on."""
     count, size = 0, FEW
     while True:
-        own, other = rows[first + count : first + count + size], others[place + count : place + count + size]
-        if own != other:
-            shorter = min(len(own), len(other))
-            return count + next((at for at in range(shorter) if own[at] != other[at]), shorter)
-        count += len(own)
-        if len(own) < size:
+        rows_here, other = rows[first + count : first + count + size], others[place + count : place + count + size]
+        if rows_here != other:
+            shorter = min(len(rows_here), len(other))
+            return count + next((at for at in range(shorter) if rows_here[at] != other[at]), shorter)
+        count += len(rows_here)
+        if len(rows_here) < size:
             return count
         size = min(2 * size, MANY)
 

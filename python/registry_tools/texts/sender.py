@@ -36,7 +36,7 @@ def read(path: Path, parser: configparser.ConfigParser) -> Sender:
         return Sender()
     section = parser[SECTION]
     must_be_known(path, f"[{SECTION}]", section, NAMES)
-    name, mail = (section.get(own, "") for own in NAMES)
+    name, mail = (section.get(field, "") for field in NAMES)
     if ENCODED in name or wrong_name(name):
         raise FileFault(path, 0, "name", shown(name), f"{wrong_name(name) or 'a name'} in one line, without {ENCODED}")
     if mail:

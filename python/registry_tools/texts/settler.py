@@ -50,5 +50,5 @@ def engine_named(row: str) -> Engine | None:
 
 def is_proved(row: str) -> bool:
     """Whether a line of the journal names a proved engine."""
-    own = engine_named(row)
-    return own is not None and own.is_proved
+    engine = engine_named(row)
+    return engine is not None and engine.is_proved

@@ -94,7 +94,8 @@ def not_grown(store: Store, head: str, date: datetime.date | None) -> FileFault 
     last = events.last()
     found = f"no line with the head {head[:FEWEST_DIGITS]}"
     if date is None:
-        return FileFault(events.path, 0, "head", found, "a file that has grown from it; --date tells its last day")
+        way = "--date tells its last day"
+        return FileFault(events.path, 0, "head", found, "a file that has grown from it", way, "; ")
     if last is None or last.date < date:
         ends = f"its last day is {last.date}" if last else "no day is settled"
         expected = f"the day {date}, after which the head was taken: this is an earlier state, or another folder"
@@ -116,8 +117,8 @@ def anchor_of(office: Office) -> Anchor:
     """The anchor of a folder as it stands. Raises FileFault if a text of its last day is not what it was."""
     last = composing.last_day(office)
     # (a head that is kept says of these texts that they are right)
-    for own in (last.text, last.report, last.waiting, last.waits):
-        office.store.texts.get(own)
+    for kept in (last.text, last.report, last.waiting, last.waits):
+        office.store.texts.get(kept)
     anchor = Anchor(now(), last.date, office.events.last_line, last.engine)
     key = office.settings.key
     return signed(anchor, key) if key else anchor
@@ -181,6 +182,6 @@ def keygen(what: str, words: list[str], text: str, key: Path) -> str:
     except OSError as error:
         raise FileFault("ssh-keygen", 0, "", f"it cannot be run: {error.strerror}", "OpenSSH's, which signs") from None
     if ran.returncode:
-        said = ran.stderr.decode("utf-8", "replace").strip().replace("\n", " ")
-        raise FileFault(key, 0, "key", f"ssh-keygen -Y {what}: {said}", "a key that signs anchors")
+        errors = ran.stderr.decode("utf-8", "replace").strip().replace("\n", " ")
+        raise FileFault(key, 0, "key", f"ssh-keygen -Y {what}: {errors}", "a key that signs anchors")
     return ran.stdout.decode("ascii", "replace")
