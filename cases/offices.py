@@ -14,6 +14,8 @@ from typing import Any
 
 from harness import TOP, Said
 
+from registry_tools.output import UNFINISHED
+
 FIRST = TOP / "examples" / "first-transfer.csv"
 FILE = "registry.sqlite"
 # (what a killed command left of a change that it had not begun stays until the next change)
@@ -153,12 +155,14 @@ def without_times(content: bytes) -> str:
     return hashlib.sha256(GIVEN_AT.sub(b"", content)).hexdigest()
 
 
-def fault_of_file(path: Path) -> str | None:
-    """What SQLite finds wrong with the file of a folder, and whether something lies beside it."""
+def fault_of_file(path: Path, *, may_have_more: bool = False) -> str | None:
+    """What SQLite finds wrong with the file of a folder, and whether something lies beside it. (There may be what a
+    killed command had begun, until the next one changes the folder.)"""
     with opened(path) as db:
         said = [own for (own,) in db.execute("PRAGMA integrity_check")]
         keys = db.execute("PRAGMA foreign_key_check").fetchall()
-    left = sorted({own.name for own in path.iterdir()} - KNOWN)
+    names = {own.name for own in path.iterdir()} - KNOWN
+    left = sorted(name for name in names if not may_have_more or not name.endswith(UNFINISHED))
     told_of = f"integrity_check {said}, foreign_key_check {keys}, beside it {left}"
     return told_of if said != ["ok"] or keys or left else None
 

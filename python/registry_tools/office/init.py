@@ -38,10 +38,8 @@ def read_first(path: str) -> DayText:
 
 
 def init(asked: Init, by: By) -> DayText:
-    """Makes a folder, whole or not at all, and answers its first text. Raises FileFault if the text has a fault, or if
-    the folder can't be made."""
-    first = read_first(asked.first)
-    settings = asked.settings()
+    """Makes a folder, whole or not at all, and answers its first text. Raises FileFault if one of both can't be."""
+    first, settings = read_first(asked.first), asked.settings()
     with NewFolder(asked.path) as made:
         os.chmod(made.beside, file.FOLDER_MODE)
         made.write(SETTINGS, settings.text())

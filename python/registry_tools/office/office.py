@@ -11,6 +11,7 @@ from registry_tools.errors import Fault, LateFault, RightsFault, WordsFault, sho
 from registry_tools.office import people
 from registry_tools.office.people import People
 from registry_tools.office.settings import Settings
+from registry_tools.output import remove_left
 from registry_tools.store.events import APPROVED, ASKED, HANDED, LABELLED, NO_DATE, OF_DAYS, TAKEN, Event, Events
 from registry_tools.store.file import Store
 from registry_tools.store.texts import sum_of
@@ -97,6 +98,7 @@ class Office:
         another state than it is in now, or if office.ini does not allow the command to this login."""
         with self.store.change():
             self.let_in(command, by)
+            remove_left(self.path)
             try:
                 yield
             except Fault as fault:
