@@ -70,8 +70,6 @@ OFFICE_COMMANDS = {
     "form": "writes an empty table of an act, accounts or labels, to be filled in; needs no folder",
 }
 MODULES = {"hand-in": "hand_in", "take-back": "take_back", "try": "trial", "import": "importing"}
-# The command whose module lies in another room, which uses this one.
-ROOMS = {"desk": "desk.desk"}
 
 HEAD = """./day COMMAND ..
 
@@ -143,8 +141,7 @@ def parser_of(name: str, module: Command, names_day: bool = False) -> Words:
 
 def module_of(name: str) -> Command:
     """The module of a command."""
-    path = ROOMS.get(name) or f"cli.{MODULES.get(name, name)}"
-    return cast(Command, importlib.import_module(f"registry_tools.{path}"))
+    return cast(Command, importlib.import_module(f"registry_tools.cli.{MODULES.get(name, name)}"))
 
 
 def run(name: str, arguments: list[str], desk: str | None = None) -> int:

@@ -5,7 +5,6 @@ import functools
 import secrets
 from collections.abc import Callable
 from pathlib import Path
-from typing import Any
 
 import flask
 from werkzeug import formparser
@@ -44,7 +43,9 @@ OF_CHANGES = {"/hand-in", "/change", "/close", "/office"}
 OTHER = {404: "No page of this desk has this address."}
 # As what a table is had, besides on its page.
 FILES = "<any(csv, xlsx, json):kind>"
-GET: dict[str, Callable[..., Any]] = {
+# What answers an address: of the desk, with the words of its rule.
+View = Callable[..., Response]
+GET: dict[str, View] = {
     "/": pages.today, "/hand-in": pages.hand_in, "/next": pages.next_day, "/change": pages.change,
     "/close": pages.close, "/days": pages.days, "/days/<string(length=10):word>": pages.day, "/undo": pages.undo,
     "/release": pages.release, "/correct": pages.correct_page, "/name": pages.name, "/names": questions.names,
@@ -62,7 +63,7 @@ GET: dict[str, Callable[..., Any]] = {
     "/office/<number>/<name>": settings_page.copy,
     "/jobs/<number>": questions.job, "/jobs/<number>/packages.zip": questions.packages,
 }  # fmt: skip
-POST: dict[str, Callable[..., Any]] = {
+POST: dict[str, View] = {
     "/name": posts.name, "/hand-in/look": asks.ask, "/hand-in/take": posts.take, "/next/take-back": posts.take_back,
     # (a look is kept, so that the next one tells what is new)
     "/next/seen": functools.partial(posts.begin, command="try"),
@@ -83,12 +84,16 @@ OF_MACHINES: dict[str, tuple[str, Callable[[Served], Response]]] = {
 OF_LOOKING = {"/name", "/audit/begin", "/send/begin"}
 
 
+class Limited(flask.Request):
+    """A request whose form is not too long. (Some versions of Flask have no setting for that.)"""
+
+    max_form_memory_size = heads.MOST_FORM
+
+
 def make(served: Served) -> flask.Flask:
     """The application of a desk."""
     app = flask.Flask("desk", root_path=str(Path(__file__).parent), static_folder=None)
-    # (some versions of Flask have no setting for the size of a form)
-    limited: Any = type("Request", (flask.Request,), {"max_form_memory_size": heads.MOST_FORM})
-    app.request_class = limited
+    app.request_class = Limited
     # (werkzeug 2.2 raises this for a large field by a name that it forgot to import)
     setattr(formparser, "RequestEntityTooLarge", RequestEntityTooLarge)
     # (cookies know no ports: another desk has another one)
@@ -115,7 +120,7 @@ def make(served: Served) -> flask.Flask:
         app.add_url_rule(rule, f"POST {rule}", functools.partial(changed, served, view), methods=["POST"])
     for rule, (method, view) in OF_MACHINES.items():
         told = functools.partial(machines.told, view)
-        shows: Callable[..., Any] = shown_now
+        shows: View = shown_now
         if method == "POST":
             shows = changed
         app.add_url_rule(rule, f"{method} {rule}", functools.partial(shows, served, told), methods=[method])
@@ -126,7 +131,7 @@ def make(served: Served) -> flask.Flask:
     return app
 
 
-def shown_now(served: Served, view: Callable[..., Any], **more: Any) -> Any:
+def shown_now(served: Served, view: View, **more: object) -> Response:
     """What a view shows of the folder as it is at one moment."""
     # (what a change of this page builds on is of the same moment)
     if flask.request.path in OF_TRIALS or LOOK in flask.request.path:
@@ -137,7 +142,7 @@ def shown_now(served: Served, view: Callable[..., Any], **more: Any) -> Any:
         return view(served, **more)
 
 
-def changed(served: Served, view: Callable[..., Any]) -> Any:
+def changed(served: Served, view: View) -> Response:
     """What a form does that changes something: once, also if it is sent again. A desk that only looks refuses it."""
     if served.is_look and flask.request.path not in OF_LOOKING:
         return gate.said(403, "This desk shows all, and changes nothing.", title="Nothing was done")
@@ -148,7 +153,7 @@ def changed(served: Served, view: Callable[..., Any]) -> Any:
     return view(served)
 
 
-def failed(served: Served, error: Exception) -> Any:
+def failed(served: Served, error: Exception) -> Response:
     """What went wrong, on a page and in the log."""
     code, text, back = told_of(error)
     head, why = gate.head(), "what was asked can't be done"
@@ -193,10 +198,10 @@ def dress(app: flask.Flask, served: Served) -> None:
     app.jinja_env.trim_blocks = app.jinja_env.lstrip_blocks = True
 
 
-def document(name: str) -> Any:
+def document(name: str) -> Response:
     """The page of a document."""
     title, body = document_parts(name)
-    return flask.render_template("base.html", title=title, is_in=True, body=body)
+    return flask.make_response(flask.render_template("base.html", title=title, is_in=True, body=body))
 
 
 def style() -> Response:

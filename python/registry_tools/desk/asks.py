@@ -1,10 +1,10 @@
 """What somebody asks for by a form, and looks at before a yes: each look has an address, so that it is there again
 behind Back, and is taken again as the folder is then. Its yes counts as long as the same comes of it."""
 import re
-from typing import Any
 
 import flask
 from werkzeug.exceptions import NotFound
+from werkzeug.wrappers import Response
 
 from registry_tools.desk import forms, gate, looks
 from registry_tools.desk.gate import Served
@@ -34,7 +34,7 @@ OF_ASKING = OF_PAGE | {"who", "why", "look"}
 # What is asked for.
 
 
-def ask(served: Served) -> Any:
+def ask(served: Served) -> Response:
     """Keeps what a form asks for, and goes to its look. Raises WordsFault if it asks for nothing."""
     page, fields = page_of_form(), flask.request.form.to_dict(flat=False)
     fields = {name: words for name, words in fields.items() if name not in OF_ASKING}
@@ -51,7 +51,7 @@ def ask(served: Served) -> Any:
 
 def page_of_form() -> str:
     """The page of the form, or of the look, that is asked for."""
-    return "/" + flask.request.path.split("/")[1]
+    return f"/{flask.request.path.split('/')[1]}"
 
 
 def uploaded(served: Served, page: str, fields: dict[str, list[str]]) -> str:
@@ -105,13 +105,13 @@ def back_to(asked: Asked) -> str:
     return f"{address_of(asked.page, {**typed_in(asked)})}{'#one' if 'act' in asked.fields else ''}"
 
 
-def done_by(served: Served, asked: Asked) -> Any:
+def done_by(served: Served, asked: Asked) -> Response | None:
     """The way to what was done by the yes of this look; nothing, if nothing was."""
     job = served.jobs.jobs.get(asked.number)
     return flask.redirect(f"/jobs/{job.number}") if job is not None and not job.is_fault() else None
 
 
-def look(served: Served, key: str) -> Any:
+def look(served: Served, key: str) -> Response:
     """The page of the look at what a form asks for."""
     typed = flask.request.args.to_dict(flat=False)
     if typed and served.jobs.asked_for(page_of_form(), key) is None:
@@ -135,7 +135,7 @@ def with_label(told: str) -> str:
 # Files, and instructions that were typed.
 
 
-def page_of_files(served: Served, key: str, asked: Asked) -> Any:
+def page_of_files(served: Served, key: str, asked: Asked) -> Response:
     """What would come of files or an instruction."""
     files, dates = served.jobs.upload(asked.place), asked.first().get("dates", "")
     reading, by = served.reading, gate.by(served)
@@ -206,7 +206,7 @@ def names_told(files: list[Given]) -> list[str]:
 # Changes by hand, and names.
 
 
-def page_of_change(served: Served, key: str, asked: Asked) -> Any:
+def page_of_change(served: Served, key: str, asked: Asked) -> Response:
     """What a change by hand would change."""
     edits = looks.edits_asked([*forms.words_of_change(asked.first(), served.reading)])
     changed = looks.look_at_change(served.reading, gate.by(served), edits)
@@ -219,7 +219,7 @@ def page_of_change(served: Served, key: str, asked: Asked) -> Any:
     )  # fmt: skip
 
 
-def page_of_names(served: Served, key: str, asked: Asked) -> Any:
+def page_of_names(served: Served, key: str, asked: Asked) -> Response:
     """What would be named how, by the form or by a file."""
     with served.jobs.looking:
         new, before, doubts = looks.look_at_names(served.reading, words_of_names(served, asked))

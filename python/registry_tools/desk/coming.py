@@ -1,8 +1,6 @@
 """The page of what is due: as a table, and as a file or a calendar for other programs."""
 import datetime
 import functools
-from collections.abc import Sequence
-from typing import Any
 
 import flask
 from werkzeug.wrappers import Response
@@ -14,14 +12,14 @@ from registry_tools.desk.gate import Served
 from registry_tools.desk.questions import download, rows_file
 from registry_tools.desk.reading import Reading
 from registry_tools.desk.shown import asked, show_page
-from registry_tools.pages.html import link, tag
+from registry_tools.pages.html import Cells, link, tag
 from registry_tools.questions import due
 
 COLUMNS = ["Day", "What", "Account", "Record", "More"]
 CALENDAR = "text/calendar; charset=utf-8"
 
 
-def page(served: Served) -> Any:
+def page(served: Served) -> Response:
     """The page of what is due, and of what is overdue, once a day is settled."""
     reading = served.reading
     if reading.office().last() is None:
@@ -49,7 +47,7 @@ def found_until(reading: Reading) -> tuple[list[due.Due], datetime.date]:
     return reading.once(("due", until, voice.is_desk()), state, lambda: due.with_calendar(office, until, tasks)), until
 
 
-def cells_of(reading: Reading, row: Sequence[Any]) -> Sequence[Any]:
+def cells_of(reading: Reading, row: tuple[str, str, int | None, int | None, str]) -> Cells:
     """The cells of what is due, its account with a link and its name."""
     date, what, account, *more = row
     named = link(f"/accounts/{account}", reading.names().account(account)) if account else ""

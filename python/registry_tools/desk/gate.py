@@ -6,7 +6,6 @@ import hmac
 import re
 import secrets
 from pathlib import Path
-from typing import Any
 
 import flask
 from flask.sessions import SecureCookieSessionInterface
@@ -75,7 +74,7 @@ def head() -> Head:
     return Head(asked.method, asked.path, headers, peer)
 
 
-def let_in(served: Served) -> Any:
+def let_in(served: Served) -> Response | None:
     """Answers nothing to who may go on, or why not."""
     try:
         return let_in_or_not(served)
@@ -87,7 +86,7 @@ def let_in(served: Served) -> Any:
         return said(500, NOT_NOW)
 
 
-def let_in_or_not(served: Served) -> Any:
+def let_in_or_not(served: Served) -> Response | None:
     """The same. Raises FileFault if nobody knows who may come."""
     asked_by, request = head(), flask.request
     if served.door is not None:
@@ -111,7 +110,7 @@ def refusal_of_name(served: Served) -> Refusal | None:
     return Refusal(403, NOT_NAMED, f"{name}, whom the proxy names, is no login that {SETTINGS} names")
 
 
-def let_in_by(door: Door, asked_by: Head) -> Any:
+def let_in_by(door: Door, asked_by: Head) -> Response | None:
     """The same at a socket: whoever comes is who the system says, and has a link beside, or a proxy that names them."""
     peer, session = peer_of(flask.request.environ), flask.session
     caller = door.caller(peer, asked_by)
@@ -141,7 +140,7 @@ def let_in_by(door: Door, asked_by: Head) -> Any:
     return refuse(asked_by, refusal) if refusal else None
 
 
-def let_in_machine(asked_by: Head, caller: Caller) -> Any:
+def let_in_machine(asked_by: Head, caller: Caller) -> Response | None:
     """Lets a program in that asks for JSON where links are made: whose it is, the system says. A form of a browser that
     somebody leads there sends no JSON."""
     refusal = None
@@ -163,16 +162,16 @@ def come_in(asked_by: Head, caller: Caller, link: str) -> None:
     log.came_in(asked_by.peer, caller.person)
 
 
-def enter_by(door: Door, asked_by: Head, caller: Caller, key: str) -> Any:
+def enter_by(door: Door, asked_by: Head, caller: Caller, key: str) -> Response:
     """Lets somebody in who has a link of their own."""
     name = link_name(key)
     if not door.links.counts(name, caller.login):
         return refuse(asked_by, Refusal(403, NO_LINK, "the link of another login, or one that has ended"))
     come_in(asked_by, caller, name)
-    return flask.render_template("entered.html")
+    return flask.make_response(flask.render_template("entered.html"))
 
 
-def link_for(door: Door, asked_by: Head, caller: Caller) -> Any:
+def link_for(door: Door, asked_by: Head, caller: Caller) -> Response:
     """Makes a link for whoever asks at the socket of links, or ends all of theirs."""
     asked = asked_by.method, asked_by.path
     if caller.is_by_proxy or asked not in (("POST", "/link"), ("POST", "/end")):
@@ -205,7 +204,7 @@ def refuse(asked_by: Head, refusal: Refusal) -> Response:
     return said(refusal.code, refusal.text, is_again=refusal.is_again, back=back)
 
 
-def enter(served: Served, asked_by: Head, key: str) -> Any:
+def enter(served: Served, asked_by: Head, key: str) -> Response:
     """Lets a browser in that has the secret of the link. Behind a proxy it stays the one whom the proxy names now."""
     if not hmac.compare_digest(key.encode("utf-8", "replace"), served.key.encode()):
         other = "The link has another secret: the desk prints a new one each time it is started."
@@ -216,7 +215,7 @@ def enter(served: Served, asked_by: Head, key: str) -> Any:
         flask.session["name"] = name_of_proxy(served)
     log.came_in(asked_by.peer, known_name(served))
     # (a redirect of a link that was opened elsewhere would not take the strict cookie with it: a page does)
-    return flask.render_template("entered.html")
+    return flask.make_response(flask.render_template("entered.html"))
 
 
 def with_headers(response: Response) -> Response:

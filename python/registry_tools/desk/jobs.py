@@ -17,7 +17,8 @@ from dataclasses import dataclass, field
 from pathlib import Path
 from typing import Callable, Iterator
 
-from registry_tools import isolated, main, opening, outcomes
+from registry_tools import isolated, opening, outcomes
+from registry_tools.cli.main import FOR_DESK
 from registry_tools.door.commands import MOST_SECONDS, Started
 from registry_tools.errors import FOUND, WordsFault
 from registry_tools.office.incoming import Given
@@ -165,7 +166,7 @@ class Jobs:
                 return self.jobs[number]
             out = Path(tempfile.mkdtemp(prefix="job-", dir=self.private))
             goes_to = [MADE] if makes else []
-            told = [main.FOR_DESK, str(self.office), str(out / OUTCOME)]
+            told = [FOR_DESK, str(self.office), str(out / OUTCOME)]
             line = [*COMMAND, names["./day"], *told, command, *goes_to, "--office", str(self.office), *words]
             job = Job(number, command, words, out, self.begin(line, out, out), seen, back)
             self.jobs[number] = job

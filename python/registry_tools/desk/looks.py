@@ -3,7 +3,6 @@ functions behind the commands, whose change of the folder is taken back at once.
 import contextlib
 import datetime
 from dataclasses import dataclass, field, replace
-from typing import Any
 
 from registry_tools.cli import change as words_of_change, label as words_of_names
 from registry_tools.desk.reading import Reading
@@ -30,7 +29,7 @@ TYPED = "typed at the desk.csv"
 MOST_ROWS, MOST_TOLD = 5, 100
 # A change that is only looked at has no reason yet.
 NO_REASON = "no reason yet"
-Rows = list[tuple[Any, ...]]
+Rows = list[tuple[object, ...]]
 
 
 @dataclass

@@ -2,10 +2,10 @@
 out, by the functions behind the commands. Nothing that a browser sends by itself is taken there for a wish."""
 import base64
 import binascii
+import contextlib
 import json
 from collections.abc import Callable, Sequence
 from dataclasses import asdict
-from typing import Any
 
 import flask
 from werkzeug.wrappers import Response
@@ -62,7 +62,7 @@ def try_next(served: Served) -> Response:
 def hand_in(served: Served) -> Response:
     """Hands in what a program sends, as ./day hand-in does."""
     sent = sent_by()
-    files = [*files_of(sent)]
+    files = [*map(given, list_of(sent["files"]))]
     by = gate.by(served, str(sent["seen"]) if "seen" in sent else None)
     again, dates = tuple(map(str, list_of(sent.get("again", [])))), sent.get("dates")
     log.begun("hand-in", gate.known_name(served), gate.head().peer)
@@ -75,31 +75,27 @@ def hand_in(served: Served) -> Response:
     return answer(as_data(str(came.next_day.date), looked, came.next_day.notes) | more)
 
 
-def sent_by() -> Any:
-    """The JSON that a program sends; nothing, if it is none."""
-    try:
-        return flask.request.get_json(silent=True)
-    except RecursionError:
-        return None
+def sent_by() -> dict[str, object]:
+    """The JSON that a program sends. Raises WordsFault if it is none that has files."""
+    with contextlib.suppress(RecursionError):
+        sent: object = flask.request.get_json(silent=True)
+        if isinstance(sent, dict) and list_of(sent.get("files", [])):
+            return sent
+    raise WordsFault(f"expected JSON: an object with {WORDS}")
 
 
-def files_of(sent: Any) -> list[Given]:
-    """The files that a program sends, under the names that it gives them. Raises WordsFault."""
-    if not isinstance(sent, dict) or not list_of(sent.get("files", [])):
-        raise WordsFault(f"expected JSON: an object with {WORDS}")
-    return [given(each) for each in list_of(sent["files"])]
-
-
-def list_of(value: Any) -> Sequence[Any]:
+def list_of(value: object) -> list[object]:
     """A list that a program sends. Raises WordsFault if it is none."""
     if not isinstance(value, list):
         raise WordsFault(f"expected a list: {WORDS}")
     return value
 
 
-def given(file: Any) -> Given:
-    """A file that a program sends. Raises WordsFault."""
+def given(file: object) -> Given:
+    """A file that a program sends, under the name that it gives it. Raises WordsFault."""
     try:
+        if not isinstance(file, dict):
+            raise TypeError
         name = str(file["name"])
         content: bytes = file["text"].encode() if "text" in file else base64.b64decode(file["base64"], validate=True)
     except (KeyError, TypeError, AttributeError, ValueError, binascii.Error):
@@ -109,7 +105,7 @@ def given(file: Any) -> Given:
     return Given(KeptText(name, lambda: content), name)
 
 
-def as_data(date: str, looked: Sequence[trial.Looked], notes: Sequence[str]) -> dict[str, Any]:
+def as_data(date: str, looked: Sequence[trial.Looked], notes: Sequence[str]) -> dict[str, object]:
     """What would come of instructions, as data; `status` is the exit status of the command."""
     rows = [{"place": each.place, "row": each.do_row, "words": each.words,
              "outcome": "waits" if each.waits else "refused" if each.is_refused else "done",

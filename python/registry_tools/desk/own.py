@@ -3,8 +3,7 @@
 No other page is reached by such a login: whatever else it asks for is answered alike, whether it is there or not. What
 is shown comes from holders/own.py, and what is asked for goes to holders/asking.py."""
 import functools
-from collections.abc import Mapping, Sequence
-from typing import Any
+from collections.abc import Callable, Mapping, Sequence
 
 import flask
 from werkzeug.exceptions import HTTPException
@@ -30,6 +29,7 @@ from registry_tools.pages.html import link
 from registry_tools.pages.statement import KINDS
 from registry_tools.pairs import compliance as answers
 from registry_tools.second import passing
+from registry_tools.showing import Cell
 from registry_tools.sheets import columns as sheets
 from registry_tools.texts.in_words import grouped
 
@@ -40,16 +40,16 @@ OF_WAITING = tables.columns("#account instruction proposed by state")
 Statements = dict[int, OwnStatement]
 
 
-def answer(served: Served) -> Any:
+def answer(served: Served) -> Response | None:
     """What a login is answered that is tied to a holder; nothing, if it is another login."""
     person = gate.tied()
     if person is None:
         return None
-    view: Any
     try:
-        view, words = ADDRESSES.bind("").match(flask.request.path, method=flask.request.method)
+        name, words = ADDRESSES.bind("").match(flask.request.path, method=flask.request.method)
     except HTTPException:
         return gate.said(404, NOTHING)
+    view = VIEWS[name]
     try:
         if flask.request.method == "POST":
             return gate.said(403, asking.LOOKS) if served.is_look else view(served, person, **words)
@@ -82,7 +82,7 @@ def statements_of(served: Served, of_holder: Own) -> Statements:
 # What is shown.
 
 
-def today(served: Served, person: Person) -> Any:
+def today(served: Served, person: Person) -> Response:
     """The page of what is to be done, what waits, and what was refused."""
     of_holder, office = own_of(served, person), served.reading.office()
     statements, name, date = statements_of(served, of_holder), office.settings.name, of_holder.settled.head.date
@@ -98,14 +98,14 @@ def today(served: Served, person: Person) -> Any:
     )  # fmt: skip
 
 
-def account_rows(of_holder: Own) -> list[tuple[Any, ...]]:
+def account_rows(of_holder: Own) -> list[tuple[int, str, str, str, int, int]]:
     """The accounts of the holder."""
     rows = (block.rows[0].split(",") for block in of_holder.book.values())
     return [(int(row[1]), of_holder.settled.names.name_of("account", row[1]), row[2], row[4], int(row[8]), int(row[9]))
             for row in rows]  # fmt: skip
 
 
-def account(served: Served, person: Person, number: int) -> Any:
+def account(served: Served, person: Person, number: int) -> Response:
     """The page of an account, with its statement."""
     of_holder = own_of(served, person)
     if number not in of_holder.book:
@@ -114,7 +114,7 @@ def account(served: Served, person: Person, number: int) -> Any:
     return show_page("own_account", f"Account {number}", own=told, number=number, may_ask=person.tied_to(USER))
 
 
-def compliance(served: Served, person: Person) -> Any:
+def compliance(served: Served, person: Person) -> Response:
     """The page of compliance for a year."""
     of_holder, year, rows = standings_asked(served, person)
     cells = [dict(zip(standing.COLUMNS, standing.operator_cells(of_holder.settled, each))) for each in rows]
@@ -136,7 +136,7 @@ def file(served: Served, person: Person, what: str, kind: str, number: int = 0) 
     """A table of the accounts, as a file."""
     of_holder = own_of(served, person)
     if what == "accounts":
-        rows: list[Sequence[Any]] = [(row[0], row[2], of_holder.holder, *row[3:]) for row in account_rows(of_holder)]
+        rows: list[Sequence[Cell]] = [(row[0], row[2], of_holder.holder, *row[3:]) for row in account_rows(of_holder)]
         return rows_file(served, kind, what, OF_ACCOUNTS, rows)
     if what == "compliance":
         return rows_file(served, kind, what, answers.COLUMNS, [*map(answers.cells, standings_asked(served, person)[2])])
@@ -147,7 +147,7 @@ def file(served: Served, person: Person, what: str, kind: str, number: int = 0) 
     if number not in of_holder.book:
         return gate.said(404, NOTHING)
     entries = statements_of(served, of_holder)[number].entries
-    rows = [(str(row[0]), of, row[2], row[3], *(int(str(cell).replace(",", "") or 0) for cell in row[4:]))
+    rows = [(str(row[0]), of, str(row[2]), str(row[3]), *(int(str(cell).replace(",", "") or 0) for cell in row[4:]))
             for of in KINDS for row in entries[of]]  # fmt: skip
     return rows_file(served, kind, "statement", OF_STATEMENT, rows)
 
@@ -155,7 +155,7 @@ def file(served: Served, person: Person, what: str, kind: str, number: int = 0) 
 # What is asked for.
 
 
-def hand_in(served: Served, person: Person) -> Any:
+def hand_in(served: Served, person: Person) -> Response:
     """The form of an instruction, and the look at what it says."""
     asking.own_user(person)
     of_holder, act, word = own_of(served, person), asked("act"), asked("account")
@@ -169,7 +169,7 @@ def hand_in(served: Served, person: Person) -> Any:
 def look_at(
     of_holder: Own, person: Person, answers: Mapping[str, str], fields: list[Field], row: bytes, wrong: list[str],
     had: str = "",
-) -> Any:  # fmt: skip
+) -> Response:  # fmt: skip
     """The page of the form, with what it says."""
     act, number = answers.get("act", ""), answers.get("account", "")
     code = 400 if wrong and flask.request.method == "POST" else 200
@@ -203,7 +203,7 @@ def row_asked(served: Served, of_holder: Own, person: Person, answers: Mapping[s
     return row, []
 
 
-def ask(served: Served, person: Person) -> Any:
+def ask(served: Served, person: Person) -> Response:
     """Hands in what the form says."""
     of_holder, answers = own_of(served, person), flask.request.form.to_dict()
     row, wrong = row_asked(served, of_holder, person, answers)
@@ -219,7 +219,7 @@ def ask(served: Served, person: Person) -> Any:
     return flask.redirect("/#handed", 303)
 
 
-def approve(served: Served, person: Person) -> Any:
+def approve(served: Served, person: Person) -> Response:
     """Approves what another login of the holder asked for."""
     of_holder = own_of(served, person)
     with served.jobs.looking, served.reading.anew() as office:
@@ -229,13 +229,15 @@ def approve(served: Served, person: Person) -> Any:
 
 
 FILES = "<any(csv, xlsx, json):kind>"
-GET: dict[str, Any] = {
+# What answers an address: nothing, where it is one of everybody.
+View = Callable[..., Response | None]
+GET: dict[str, View] = {
     "/": today, "/accounts/<int:number>": account, "/compliance": compliance, "/hand-in": hand_in,
     **{f"/{what}.{FILES}": functools.partial(file, what=what) for what in ("accounts", "compliance", "waiting")},
     f"/accounts/<int:number>/statement.{FILES}": functools.partial(file, what="statement"),
     **dict.fromkeys(("/style.css", "/rules.html", "/formats.html"), of_all),
 }  # fmt: skip
-POST: dict[str, Any] = {"/hand-in": ask, "/approve": approve}
-RULES = [Rule(path, endpoint=view, methods=[method]) for method, views in (("GET", GET), ("POST", POST))
-         for path, view in views.items()]  # fmt: skip
+POST: dict[str, View] = {"/hand-in": ask, "/approve": approve}
+VIEWS = {f"{method} {path}": view for method, views in (("GET", GET), ("POST", POST)) for path, view in views.items()}
+RULES = [Rule(name.partition(" ")[2], endpoint=name, methods=[name.partition(" ")[0]]) for name in VIEWS]
 ADDRESSES = Map(RULES, strict_slashes=True, redirect_defaults=False, merge_slashes=False)

@@ -3,12 +3,12 @@ import contextlib
 import itertools
 import os
 from collections import Counter
-from collections.abc import Callable, Iterator, Mapping, Sequence
+from collections.abc import Callable, Iterator, Mapping
 from dataclasses import replace
-from typing import Any
 
 import flask
 from werkzeug.exceptions import NotFound
+from werkzeug.wrappers import Response
 
 from registry_tools import voice
 from registry_tools.calendars.dates import date_of
@@ -25,7 +25,7 @@ from registry_tools.office.trial import Looked, whys
 from registry_tools.office.waits import waits_of
 from registry_tools.pages import pictures, summary
 from registry_tools.pages.beside import item_in_words
-from registry_tools.pages.html import Markup, link, paragraph, tag
+from registry_tools.pages.html import Cells, Markup, link, paragraph, tag
 from registry_tools.pages.plan import plan_parts
 from registry_tools.pages.settled import (
     OUTCOMES, Settled, by_hand_parts, joined_words, kind_of, long_date, outcome_in_words, record_in_words,
@@ -37,6 +37,7 @@ from registry_tools.second import faults, passing, rules
 from registry_tools.cli import form
 from registry_tools.texts.books import Sums, sums_of, sums_told
 from registry_tools.texts.in_words import grouped, instruction_in_words
+from registry_tools.texts.report import LogRow
 
 DAYS = ["Day", "Who", "At", "Records", "Settled by", "Released"]
 TAKEN = ["Place", "What", "Who took it back", "At", "Why"]
@@ -53,7 +54,7 @@ RELEASED = (
 )
 
 
-def today(served: Served) -> Any:
+def today(served: Served) -> Response:
     """The page of what is to be done today."""
     reading = served.reading
     office, handed_in = reading.office(), reading.handed_in()
@@ -83,7 +84,7 @@ def today(served: Served) -> Any:
     )  # fmt: skip
 
 
-def approve_page(served: Served) -> Any:
+def approve_page(served: Served) -> Response:
     """The page of what waits for another login, each as a whole, of which who may approve several chooses some."""
     reading = served.reading
     office, handed_in = reading.office(), reading.handed_in()
@@ -114,7 +115,7 @@ def is_for(served: Served, office: Office, waits: approvals.Waits) -> bool:
     return False
 
 
-def standing_now(reading: Reading) -> dict[str, Any]:
+def standing_now(reading: Reading) -> dict[str, object]:
     """What all accounts hold, and who is missing how much by when, after the last day, if there is one."""
     settled = reading.settled()
     if settled is None:
@@ -124,7 +125,7 @@ def standing_now(reading: Reading) -> dict[str, Any]:
     missing = [(each.account.number, int(each.missing or 0), each.account.holder) for each in lacking]
     until, most = reading.office().settings.due.surrender_of(year), max((row[1] for row in missing), default=0)
 
-    def cells(row: Sequence[Any]) -> Sequence[Any]:
+    def cells(row: tuple[int, int, int]) -> Cells:
         account = link(f"/accounts/{row[0]}", reading.names().account(row[0]))
         return joined_words(account, reading.names().holder(row[2])), grouped(row[1]), pictures.length_of(row[1], most)
 
@@ -132,7 +133,7 @@ def standing_now(reading: Reading) -> dict[str, Any]:
             "missing": sorted(missing, key=lambda row: -int(row[1])), "shown_missing": cells}  # fmt: skip
 
 
-def hand_in(served: Served) -> Any:
+def hand_in(served: Served) -> Response:
     """The page with the forms for instructions and files."""
     act, reading = asked("act") if asked("act") in faults.ACT_WORDS else "", served.reading
     # (behind a no, the field has what was typed)
@@ -147,7 +148,7 @@ def hand_in(served: Served) -> Any:
     )  # fmt: skip
 
 
-def next_day(served: Served) -> Any:
+def next_day(served: Served) -> Response:
     """The page of the next day as it stands."""
     following, looked, otherwise = served.reading.tried(asked("date") or None)
     kinds: dict[str, Callable[[Looked], bool]] = {
@@ -160,7 +161,7 @@ def next_day(served: Served) -> Any:
     items, gone = handed_in.items(intake.CHANGES, intake.EDITS, intake.WORK), receipts.of(handed_in)
     counts = {name: sum(map(is_so, looked)) for name, is_so in kinds.items()}
 
-    def cells(row: Sequence[Any]) -> Sequence[Any]:
+    def cells(row: tuple[int, str, str, Looked]) -> Cells:
         place, outcome, _, tried = row
         return box(served, place) if place else "waited", outcome, shown.outcome(tried), "new" if tried.is_new else ""
 
@@ -187,7 +188,7 @@ def box(served: Served, place: int) -> object:
     return tag("label", field, f" {place}", class_="check")
 
 
-def change(served: Served) -> Any:
+def change(served: Served) -> Response:
     """The form of an account, of the rules, or of a new account, once a day is settled. Raises WordsFault if there is
     no such account."""
     number, reading = number_asked("account"), served.reading
@@ -206,7 +207,7 @@ def change(served: Served) -> Any:
                      cut=forms.cut_told(reading))  # fmt: skip
 
 
-def close(served: Served) -> Any:
+def close(served: Served) -> Response:
     """The page that asks whether the next day is settled."""
     reading, why, outcome_of, comes = served.reading, "", None, ""
     dates, program = reading.dates(), reading.office().settings.program
@@ -241,20 +242,21 @@ def totals_of(before: Mapping[str, Sums], after: Mapping[str, Sums]) -> Markup:
     return sorted_table("Totals", columns, rows, columns[2:], name="totals-")
 
 
-def day_rows(served: Served) -> list[tuple[Any, ...]]:
+def day_rows(served: Served) -> list[tuple[str, str, str, int, str, str]]:
     """All settled days, the last one first."""
     told = receipts.days_told(served.reading.office())
-    return [(str(each.date), each.who, voice.time(each.at), each.next - each.first, *more) for each, *more in told]
+    return [(str(each.date), each.who, voice.time(each.at), each.next - each.first, engine, is_out)
+            for each, engine, is_out in told]  # fmt: skip
 
 
-def days(served: Served) -> Any:
+def days(served: Served) -> Response:
     """The page of all settled days."""
     office, rows = served.reading.office(), day_rows(served)
     return show_page("days", "Days", rows=rows, last=office.last(), is_released=office.events.is_released(),
                      columns=DAYS, shown_row=lambda row: (link(f"/days/{row[0]}", row[0]), *row[1:]))  # fmt: skip
 
 
-def undo(served: Served) -> Any:
+def undo(served: Served) -> Response:
     """The page that asks whether the last day is taken back, and says what that does. WordsFault if it can't be."""
     reading, by = served.reading, gate.by(served)
     with reading.moment():
@@ -282,7 +284,7 @@ def undo(served: Served) -> Any:
     )  # fmt: skip
 
 
-def release(served: Served) -> Any:
+def release(served: Served) -> Response:
     """The page that asks whether a day is released, and says what that means. WordsFault if it can't be."""
     office, rows = served.reading.office(), [row for row in day_rows(served) if row[-1] == "no"]
     last = office.last()
@@ -299,7 +301,7 @@ def release(served: Served) -> Any:
     )  # fmt: skip
 
 
-def day(served: Served, word: str) -> Any:
+def day(served: Served, word: str) -> Response:
     """The page of a day: what the pages of ./day page say, with its log as one table. NotFound if it is not settled."""
     date, reading = date_of("the day", word), served.reading
     settled = reading.settled(date)
@@ -311,7 +313,7 @@ def day(served: Served, word: str) -> Any:
     count = Counter(kind for row in settled.log for kind in ("", kind_of(row)))
     accounts_of, found = settled.accounts_of, settled.found
 
-    def cells(row: Sequence[Any]) -> Sequence[Any]:
+    def cells(row: tuple[int, str, list[int], str, LogRow]) -> Cells:
         outcome = reading.outcome(word, row[0], row[3])
         why = found.get(row[0]) if kind_of(row[4]) == "refused" else None
         return *row[:2], accounts_of(row[4]), joined_words(outcome, why) if why else outcome
@@ -346,12 +348,12 @@ def parts_of(settled: Settled, reading: Reading) -> Iterator[Markup]:
     yield from [paragraph("This is the first day.")] if by_hand.rows is None else by_hand_parts(settled, by_hand)
 
 
-def correct_page(served: Served) -> Any:
+def correct_page(served: Served) -> Response:
     """The form of what is corrected in a settled day that is not released."""
     days = [row[0] for row in day_rows(served) if row[-1] == "no"]
     return show_page("correct", "Correct", days=days)
 
 
-def name(served: Served) -> Any:
+def name(served: Served) -> Response:
     """The page that asks who sits at the desk."""
     return show_page("name", "Your name", known=gate.known_name(served))

@@ -1,8 +1,8 @@
 """The forms that have something done: each starts a command that is told what was seen before."""
 import re
-from typing import Any
 
 import flask
+from werkzeug.wrappers import Response
 
 from registry_tools.cli.words import one_line
 from registry_tools.desk import asks, forms, gate
@@ -29,7 +29,7 @@ def once() -> str:
     return form("once")
 
 
-def do(served: Served, command: str, *more: str, makes: bool = False) -> Any:
+def do(served: Served, command: str, *more: str, makes: bool = False) -> Response:
     """Has a command do it, for somebody who saw the folder in the state of the form; and goes to its answer. Raises
     WordsFault if the form has no state."""
     who, state = gate.name(served), form("state")
@@ -42,12 +42,12 @@ def do(served: Served, command: str, *more: str, makes: bool = False) -> Any:
     return begin(served, command, *words, seen=state, makes=makes)
 
 
-def do_with_why(served: Served, command: str, *more: str) -> Any:
+def do_with_why(served: Served, command: str, *more: str) -> Response:
     """The same, with the reason that the form gives. Raises WordsFault if it gives none."""
     return do(served, command, f"--why={one_line('why', form('why'))}", *more)
 
 
-def begin(served: Served, command: str, *words: str, seen: str = "", makes: bool = False) -> Any:
+def begin(served: Served, command: str, *words: str, seen: str = "", makes: bool = False) -> Response:
     """Has a command work, and goes to its answer. Raises WordsFault if the form has what no command can be told."""
     if any("\0" in word for word in words):
         raise WordsFault(NOT_WHOLE)
@@ -56,7 +56,7 @@ def begin(served: Served, command: str, *words: str, seen: str = "", makes: bool
     return flask.redirect(f"/jobs/{job.number}", 303)
 
 
-def name(served: Served) -> Any:
+def name(served: Served) -> Response:
     """Keeps the name of who sits at the desk."""
     flask.session.pop("who", None)
     gate.name(served)
@@ -72,7 +72,7 @@ def looked_at(served: Served, page: str) -> Asked:
     return asked
 
 
-def take(served: Served) -> Any:
+def take(served: Served) -> Response:
     """Has the files of an upload handed in."""
     asked = looked_at(served, "/hand-in")
     files, dates = served.jobs.upload(asked.place), asked.first().get("dates")
@@ -83,7 +83,7 @@ def take(served: Served) -> Any:
     return do(served, "hand-in", *more, *asks.names_told(files), "--", *(given.path for given in files))
 
 
-def take_back(served: Served) -> Any:
+def take_back(served: Served) -> Response:
     """Has rows taken back. Raises WordsFault if none was chosen."""
     places = flask.request.form.getlist("places")
     if not places or not all(map(PLACE.fullmatch, places)):
@@ -91,29 +91,29 @@ def take_back(served: Served) -> Any:
     return do_with_why(served, "take-back", "--", *places)
 
 
-def make_change(served: Served) -> Any:
+def make_change(served: Served) -> Response:
     """Has a change by hand made."""
     fields = looked_at(served, "/change").first()
     words = (word for _, word in forms.words_of_change(fields, served.reading))
     return do_with_why(served, "change", "--yes", *words)
 
 
-def give_names(served: Served) -> Any:
+def give_names(served: Served) -> Response:
     """Has the names given that were looked at."""
     return do_with_why(served, "label", *asks.words_of_names(served, looked_at(served, "/names")))
 
 
-def settle(served: Served) -> Any:
+def settle(served: Served) -> Response:
     """Has the next day settled and filed. What is to be looked at first wants a yes of its own."""
     return do(served, "close", f"--date={form('date')}", *(f"--{name}" for name in ("second", "yes") if form(name)))
 
 
-def undo(served: Served) -> Any:
+def undo(served: Served) -> Response:
     """Has the last day taken back."""
     return do_with_why(served, "undo", *([f"--date={form('date')}"] if form("date") else []), "--", form("day"))
 
 
-def look_at_correction(served: Served) -> Any:
+def look_at_correction(served: Served) -> Response:
     """Has it shown what a settled day and those behind it would become."""
     records, files = BETWEEN.split(form("without")) if form("without") else [], list[Given]()
     if not all(map(PLACE.fullmatch, records)):
@@ -129,7 +129,7 @@ def look_at_correction(served: Served) -> Any:
     return do_with_why(served, "correct", *words, *(["--second"] if form("second") else []), "--", form("day"))
 
 
-def make_correction(served: Served) -> Any:
+def make_correction(served: Served) -> Response:
     """Has a day corrected as it was shown. Raises WordsFault if nothing was."""
     job = served.jobs.jobs.get(form("job"))
     if job is None or not job.asks_yes():
@@ -138,12 +138,12 @@ def make_correction(served: Served) -> Any:
     return do(served, "correct", "--yes", *(word for word in job.words if not word.startswith(begins)))
 
 
-def release(served: Served) -> Any:
+def release(served: Served) -> Response:
     """Has a day released."""
     return do_with_why(served, "release", *(["--yes"] if form("yes") else []), "--", form("day"))
 
 
-def approve(served: Served) -> Any:
+def approve(served: Served) -> Response:
     """Has what waits for another login approved, as it was shown. Who is named by a word alone approves as the login of
     the desk. Raises WordsFault if nothing was chosen."""
     places, command, date = flask.request.form.getlist("place"), form("command"), form("day")
@@ -159,13 +159,13 @@ def approve(served: Served) -> Any:
     return do(served, "approve", f"--date={date}", "--", command)
 
 
-def audit(served: Served) -> Any:
+def audit(served: Served) -> Response:
     """Has the folder audited."""
     how = form("how")
     return begin(served, "audit", *([f"--{how}"] if how in ("second", "settle") else []))
 
 
-def send(served: Served) -> Any:
+def send(served: Served) -> Response:
     """Has packages made, for one download. Raises WordsFault if the words of the form are none of the command."""
     holders = BETWEEN.split(form("holders")) if form("holders") else []
     for holder in holders:

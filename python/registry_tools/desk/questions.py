@@ -7,7 +7,6 @@ import zipfile
 from collections.abc import Callable, Iterator, Sequence
 from dataclasses import replace
 from pathlib import Path
-from typing import Any
 
 import flask
 from werkzeug.exceptions import NotFound
@@ -27,7 +26,7 @@ from registry_tools.notes import BY_HAND
 from registry_tools.pages import compliance as standing
 from registry_tools.pages.month_standing import until_in_words
 from registry_tools.pages.beside import item_in_words, words_of_row
-from registry_tools.pages.html import Markup, link
+from registry_tools.pages.html import Cells, Markup, link
 from registry_tools.pages.month import Month
 from registry_tools.pages.settled import REFUSED, WAITS, Settled, joined_words, outcome_in_words, record_in_words
 from registry_tools.pairs import compliance as answers
@@ -50,6 +49,10 @@ from registry_tools.texts.report import LogRow
 WORKBOOK = "application/vnd.openxmlformats-officedocument.spreadsheetml.sheet"
 # Reads log rows: all that are meant, or those at some places of them.
 Read = Callable[..., Sequence[LogRow]]
+# An account: its number, kind, holder and status, what it holds, its name, and the number of its holder.
+AccountRow = tuple[int, str, str, str, int, int, str, int]
+# A log row: its day and record, what it asks for, the accounts and users that it names, and what came of it.
+LogCells = tuple[str, int, str, str, str, str]
 # Where somebody goes on behind a command.
 BEHIND = dict.fromkeys(("hand-in", "change", "take-back"), ("/next", "To the next day"))
 BEHIND |= {"label": ("/names", "To the names"), "settings": ("/office", "To the office")}
@@ -65,14 +68,14 @@ OF_MONTH = tables.columns("date #done #refused #waiting #general #aviation")
 COLUMNS = ["Account", "Holder", "Surrendered", "Emissions", "Surrendered of emissions", "Figure now", "Verdict"]
 
 
-def accounts(served: Served) -> Any:
+def accounts(served: Served) -> Response:
     """The page of all accounts, or of those that a word finds."""
     settled, word = served.reading.settled(), asked("q")
     rows = [*account_rows(settled, word)] if settled else []
     return show_page("accounts", "Accounts", rows=rows, q=word, settled=settled, shown_row=cells_of_account)
 
 
-def account_rows(settled: Settled, word: str) -> Iterator[tuple[Any, ...]]:
+def account_rows(settled: Settled, word: str) -> Iterator[AccountRow]:
     """What is shown of the accounts that have the word as their number, kind, holder or status, or in a name."""
     for block in settled.report.book.values():
         row = block.rows[0].split(",")
@@ -91,14 +94,14 @@ def accounts_file(served: Served, kind: str) -> Response:
     return rows_file(served, kind, "accounts", OF_ACCOUNTS, rows)
 
 
-def cells_of_account(row: Sequence[Any]) -> Sequence[Any]:
+def cells_of_account(row: AccountRow) -> Cells:
     """The cells of an account, its number with a link."""
     number, kind, holder, status, general, aviation, name, _ = row
     shown = joined_words(link(f"/accounts/{number}", number), name)
     return shown, kind, holder, status, grouped(general), grouped(aviation)
 
 
-def account(served: Served, number: int) -> Any:
+def account(served: Served, number: int) -> Response:
     """The page of an account; NotFound if there is none."""
     parts = served.reading.account(number)
     if parts is None:
@@ -120,9 +123,9 @@ def history_file(served: Served, number: int, kind: str) -> Response:
     return rows_file(served, kind, "history", tables.COLUMNS["history"], rows)
 
 
-def row_of_history(row: Sequence[Any]) -> Sequence[Any]:
+def row_of_history(row: Sequence[Cell]) -> Cells:
     """What became of an account, as it is shown: rows that somebody changed in words, and numbers in groups."""
-    day, record, what, outcome, *held = row
+    day, record, what, outcome, *held = row[0], row[1], str(row[2]), str(row[3]), *row[4:]
     if outcome == BY_HAND:
         how, _, changed = what.rpartition(" ")
         what = f"{how} {words_of_row(changed)}"
@@ -131,7 +134,7 @@ def row_of_history(row: Sequence[Any]) -> Sequence[Any]:
     return day, record, what, outcome, *("" if amount is None else grouped(amount) for amount in held)
 
 
-def names(served: Served) -> Any:
+def names(served: Served) -> Response:
     """The page of the names of users, holders and accounts."""
     rows = [(*label[:3], voice.time(label.at), *label[4:]) for label in served.reading.names().named.values()]
     return show_page("names", "Names", rows=sorted(rows, key=lambda row: (row[0], int(row[1]))), kinds=KINDS)
@@ -144,7 +147,7 @@ def names_file(served: Served, kind: str) -> Response:
     return rows_file(served, kind, "names", tables.COLUMNS["label"], rows)
 
 
-def compliance(served: Served) -> Any:
+def compliance(served: Served) -> Response:
     """The page of compliance for a year, once a day is settled."""
     reading, settled = served.reading, served.reading.settled()
     if settled is None:
@@ -171,20 +174,20 @@ def compliance_file(served: Served, kind: str) -> Response:
     return rows_file(served, kind, "compliance", answers.COLUMNS, rows)
 
 
-def row_of_standing(row: answers.Standing) -> tuple[Any, ...]:
+def row_of_standing(row: answers.Standing) -> tuple[object, ...]:
     """What a row is sorted by."""
     account, share = row.account, row.surrendered - row.emissions
     figures = row.surrendered, row.emissions, share, row.figure or ""
     return account.number, account.holder, *figures, row.verdict, row
 
 
-def cells_of_standing(settled: Settled, row: answers.Standing) -> Sequence[Any]:
+def cells_of_standing(settled: Settled, row: answers.Standing) -> Cells:
     """The cells of an operator, its account with a link."""
     cells = dict(zip(standing.COLUMNS, standing.operator_cells(settled, row)))
     return [cells[name] for name in COLUMNS]
 
 
-def month_page(served: Served) -> Any:
+def month_page(served: Served) -> Response:
     """Several days on one page, as ./day month makes it."""
     last = served.reading.office().last()
     if last is None:
@@ -225,7 +228,7 @@ def number_or_name(word: str, names: Labels, kind: str = ACCOUNT) -> int | None:
     return number_said(word.capitalize(), asked(word), names, kind) if asked(word) else None
 
 
-def find(served: Served) -> Any:
+def find(served: Served) -> Response:
     """The page of log rows over all days."""
     reading, rows = served.reading, None
     if flask.request.args and TYPED not in flask.request.args:
@@ -236,14 +239,13 @@ def find(served: Served) -> Any:
     return show_page("find", "Find", rows=rows, query=query, shown_row=lambda row: cells_of_log(reading, row))
 
 
-def rows_of_log(reading: Reading, key: object, count: Callable[[Days], int], read: Read) -> Sequence[Any]:
+def rows_of_log(reading: Reading, key: object, count: Callable[[Days], int], read: Read) -> Sequence[LogCells]:
     """Log rows as a table shows them: those of its page alone, or all, if they are sorted otherwise."""
     if flask.request.args.get("sort", "-") not in ("-", ""):
-        return reading.once(
-            key, reading.state_of_days(), lambda: reading.of_days(lambda days: [*map(row_of_log, read(days))])
-        )
+        state = reading.state_of_days()
+        return reading.once(key, state, lambda: reading.of_days(lambda days: [*map(row_of_log, read(days))]))
 
-    def part(days: Days) -> Part:
+    def part(days: Days) -> Part[LogCells]:
         found = count(days)
         places = places_shown(found)
         return Part(found, places.start, [*map(row_of_log, read(days, places=places))])
@@ -251,7 +253,7 @@ def rows_of_log(reading: Reading, key: object, count: Callable[[Days], int], rea
     return reading.of_days(part)
 
 
-def row_of_log(logged: LogRow) -> tuple[str, int, str, str, str, str]:
+def row_of_log(logged: LogRow) -> LogCells:
     """A log row as texts, with its record."""
     i = logged.instruction
     named = ", ".join(map(str, dict.fromkeys(rules.named(i))))
@@ -259,7 +261,7 @@ def row_of_log(logged: LogRow) -> tuple[str, int, str, str, str, str]:
     return str(logged.date), logged.record, record_in_words(logged), named, by, outcome_in_words(logged)
 
 
-def cells_of_log(reading: Reading, row: Sequence[Any]) -> Sequence[Any]:
+def cells_of_log(reading: Reading, row: LogCells) -> Cells:
     """The cells of a log row, its day and its accounts with links, and its users with their names."""
     day, record, words, named, by, outcome = row
     by = ", ".join(map(reading.names().user, by.split(", ")))
@@ -324,9 +326,8 @@ def cell_of(value: object) -> Cell:
 def days_file(served: Served, kind: str) -> Response:
     """All settled days, as a file."""
     told = reversed([*receipts.days_told(served.reading.office())])
-    rows: list[Sequence[Cell]] = [
-        (str(each.date), each.who, each.at, each.first, each.next, engine, is_out) for each, engine, is_out in told
-    ]
+    rows: list[Sequence[Cell]] = [(str(each.date), each.who, each.at, each.first, each.next, engine, is_out)
+                                  for each, engine, is_out in told]  # fmt: skip
     return rows_file(served, kind, "days", OF_DAYS, rows)
 
 
@@ -334,14 +335,12 @@ def month_file(served: Served, kind: str) -> Response:
     """What came of each of several days, as a file."""
     begin, end = date_asked("from") or datetime.date.min, date_asked("to") or datetime.date.max
     found = served.reading.of_days(lambda days: month(days, begin, end))
-    rows: list[Sequence[Cell]] = [
-        (str(day.date), day.done, day.refused.total(), day.waiting, *(day.allowances[kind] for kind in rules.KINDS))
-        for day in found
-    ]
+    rows: list[Sequence[Cell]] = [(str(day.date), day.done, day.refused.total(), day.waiting,
+                                   *(day.allowances[kind] for kind in rules.KINDS)) for day in found]  # fmt: skip
     return rows_file(served, kind, "month", OF_MONTH, rows)
 
 
-def journal(served: Served) -> Any:
+def journal(served: Served) -> Response:
     """The page of what was done in the folder, and changed by hand."""
     office = served.reading.office()
     who = functools.partial(receipts.who_and_second, office)
@@ -354,19 +353,19 @@ def journal(served: Served) -> Any:
     return show_page("journal", "Journal", events=events, by_hand=by_hand[::-1], taken=gone, others=others)
 
 
-def audit(served: Served) -> Any:
+def audit(served: Served) -> Response:
     """The page of audits."""
     return show_page("audit", "Audit", jobs=served.jobs.of("audit"))
 
 
-def send(served: Served) -> Any:
+def send(served: Served) -> Response:
     """The page of packages for holders."""
     office = served.reading.office()
     dates = [event.date for event in reversed(office.events.days)]
     return show_page("send", "Send", dates=dates, is_released=office.events.is_released(), jobs=served.jobs.of("send"))
 
 
-def job(served: Served, number: str) -> Any:
+def job(served: Served, number: str) -> Response:
     """The page of what a command does or did. Raises WordsFault if the desk has forgotten it."""
     begun = served.jobs.jobs.get(number)
     if begun is None:

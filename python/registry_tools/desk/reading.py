@@ -12,7 +12,7 @@ from collections import OrderedDict
 from collections.abc import Callable, Iterator
 from dataclasses import dataclass
 from pathlib import Path
-from typing import Any, TypeVar
+from typing import TypeVar, cast
 
 from registry_tools import voice
 from registry_tools.calendars.dates import date_of
@@ -81,7 +81,7 @@ class Reading:
     def __init__(self, path: Path, private: Path) -> None:
         self.path, self.private = path, private
         self.lock, self.opened = threading.Lock(), threading.local()
-        self.kept: OrderedDict[object, tuple[str, threading.Lock, list[Any]]] = OrderedDict()
+        self.kept: OrderedDict[object, tuple[str, threading.Lock, list[object]]] = OrderedDict()
 
     def office(self) -> Office:
         """The folder with all that was done, as this thread has it open: as it is now, or, in the block of `moment`, as
@@ -152,13 +152,12 @@ class Reading:
                     gc.unfreeze()
                     gc.collect()
                     gc.freeze()
-            answer: T = answers[0]
-            return answer
+            return cast(T, answers[0])
 
-    def before(self, key: object) -> Any:
+    def before(self, key: object, of_type: type[T]) -> T | None:
         """What was worked out in an earlier state of the folder; None, if it is gone."""
         kept = self.kept.get(key)
-        return kept[2][0] if kept and kept[2] else None
+        return kept[2][0] if kept and kept[2] and isinstance(kept[2][0], of_type) else None
 
     def names(self) -> Labels:
         """The names of users and holders."""
@@ -192,9 +191,9 @@ class Reading:
 
     def last_pair(self, last: Event) -> tuple[DayText, Report]:
         """The last day and its report: by those of the day before it, if that was read as the last one."""
-        earlier = self.before("last")
-        before = PastDay(earlier[0], earlier[1], None, []) if earlier else None
-        return self.once("last", last.line, functools.partial(past.read, self.office().store.pair_of(last), before))
+        pair, before = self.office().store.pair_of(last), self.before("last", PastDay)
+        read = self.once("last", last.line, lambda: PastDay(*past.read(pair, before), None, []))
+        return read.day, read.report
 
     def settled_for_holders(self) -> DeskSettled | None:
         """The last settled day in words for holders; None if there is none."""
@@ -253,7 +252,7 @@ class Reading:
         settled, last = self.settled(), self.office().last()
         assert settled is not None and last is not None
         key, day, report = ("standings", year), settled.day, settled.report
-        told = compliance.standings(day, report, year, self.before(key))
+        told = compliance.standings(day, report, year, self.before(key, Stood))
         stood: Stood = self.once(key, last.line, lambda: Stood(day, report, sorted(told, key=standing.order)))
         return stood.standings
 

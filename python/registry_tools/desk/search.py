@@ -1,11 +1,12 @@
 """What one field finds: accounts, holders, users, names, records, amounts, and the checks that refuse."""
 from collections.abc import Iterator, Sequence
-from typing import Any
+
+from werkzeug.wrappers import Response
 
 from registry_tools import tables
 from registry_tools.desk import questions
 from registry_tools.desk.gate import Served
-from registry_tools.desk.questions import cells_of_log
+from registry_tools.desk.questions import LogCells, cells_of_log
 from registry_tools.desk.reading import Reading
 from registry_tools.desk.shown import asked, show_page
 from registry_tools.notes import counted
@@ -28,7 +29,7 @@ OF_NUMBER = (
 BETWEEN = str.maketrans("", "", ",.' \u00a0\u202f")
 
 
-def page(served: Served) -> Any:
+def page(served: Served) -> Response:
     """The page of what a word finds."""
     reading, word = served.reading, asked("q")
     found = [*whats_of(reading, word)] if word else []
@@ -73,7 +74,7 @@ def whats_of(reading: Reading, word: str) -> Iterator[Markup]:
         yield joined_words(link_to_check(check.code, f"Check {check.name}", "/"), check.meaning)
 
 
-def log_rows_named(reading: Reading, word: str) -> Sequence[Any]:
+def log_rows_named(reading: Reading, word: str) -> Sequence[LogCells]:
     """The log rows of a record, or of an amount, or those that a check refused."""
     codes = ", ".join(str(check.code) for check in checks_named(word))
     number = number_of(word)

@@ -1,7 +1,7 @@
 """The page of the office: what office.ini says, and another one to ask for; copies to take along."""
 import datetime
 import re
-from typing import Any
+from collections.abc import Iterator
 
 import flask
 from werkzeug.exceptions import NotFound
@@ -38,7 +38,7 @@ def refused(served: Served) -> Response | None:
     return gate.said(403, f"This page is for who may do all: {who_may}.")
 
 
-def page(served: Served) -> Any:
+def page(served: Served) -> Response:
     """The page, with the lines that somebody would write into office.ini."""
     refusal = refused(served)
     if refusal:
@@ -83,7 +83,7 @@ def told_in_words(told: Settings) -> list[tuple[str, object]]:
     ]  # fmt: skip
 
 
-def lines_asked() -> Any:
+def lines_asked() -> Iterator[str]:
     """The lines of office.ini that the address asks for, each with its section. Somebody without a name goes."""
     yield from (f"[due] {name} = {asked(name)}" for name in ("surrender", "emissions", "lead") if asked(name))
     person = f"{asked('name')}: {asked('rights')}" if asked("name") or asked("rights") else ""
@@ -93,17 +93,17 @@ def lines_asked() -> Any:
     yield from [asked("line")] if asked("line") else []
 
 
-def ask(served: Served) -> Any:
+def ask(served: Served) -> Response:
     """Asks for another office.ini, by the lines that were shown."""
     return refused(served) or posts.do_with_why(served, people.REWRITE, "--", *LINE_END.split(form("lines")))
 
 
-def take_back(served: Served) -> Any:
+def take_back(served: Served) -> Response:
     """Takes back what was asked for."""
     return refused(served) or posts.do_with_why(served, "take-back", "--", people.REWRITE, form("event"))
 
 
-def begin(served: Served, command: str) -> Any:
+def begin(served: Served, command: str) -> Response:
     """Has a copy made. The one before is taken away: nobody fills the disk by copies."""
     refusal = refused(served)
     if refusal:

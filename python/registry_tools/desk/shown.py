@@ -3,7 +3,7 @@ Page and order stand in the address, so that a link shows the same to a colleagu
 import re
 import urllib.parse
 from collections.abc import Callable, Collection, Iterable, Sequence
-from typing import Any
+from typing import TypeVar, overload
 
 import flask
 from werkzeug.wrappers import Response
@@ -14,9 +14,11 @@ from registry_tools.desk.jobs import KEY
 from registry_tools.errors import WordsFault
 from registry_tools.office import trial
 from registry_tools.pages.beside import item_in_words
-from registry_tools.pages.html import Markup, Table, joined, link, markup, paragraph, sort_key, tag
+from registry_tools.pages.html import Cells, Markup, Table, joined, link, markup, paragraph, sort_key, tag
 from registry_tools.questions import receipts
 
+# A row of a table, as far as it is sorted by its cells: what is shown of it may be more.
+Row = TypeVar("Row", bound=Cells)
 # The word of an address that only fills the form of a page with what was typed.
 TYPED = "typed"
 NUMBER = re.compile("[1-9][0-9]{0,8}", re.ASCII)
@@ -30,7 +32,7 @@ ASKED_AGAIN = {"close": "date", "undo": "day", "release": "day"}
 ROWS, NEAR = 100, 4
 
 
-def show_page(template: str, title: str, code: int = 200, **more: Any) -> Response:
+def show_page(template: str, title: str, code: int = 200, /, **more: object) -> Response:
     """A page of this template."""
     is_in = "token" in flask.session
     text = flask.render_template("base.html", page=f"{template}.html", title=title, is_in=is_in, **more)
@@ -42,7 +44,8 @@ def show_page(template: str, title: str, code: int = 200, **more: Any) -> Respon
 
 def asked(name: str) -> str:
     """What a word of the address says, without blanks around it; nothing, if it only fills the form."""
-    return "" if TYPED in flask.request.args else flask.request.args.get(name, "").strip()
+    word: str = flask.request.args.get(name, "")
+    return "" if TYPED in flask.request.args else word.strip()
 
 
 def number_asked(name: str) -> int | None:
@@ -68,7 +71,8 @@ def address_of(path: str, args: dict[str, object]) -> str:
 
 def form(name: str) -> str:
     """What a field of the form has, without blanks around it."""
-    return flask.request.form.get(name, "").strip()
+    typed: str = flask.request.form.get(name, "")
+    return typed.strip()
 
 
 def back_of_form() -> str:
@@ -96,16 +100,22 @@ def row_of_taken(taken: receipts.TakenBack) -> tuple[object, ...]:
     return taken.taken.place, what, taken.taken.who, voice.time(taken.taken.at), taken.taken.why
 
 
-class Part(Sequence[Any]):
+class Part(Sequence[Row]):
     """The rows of a long table of which only those of the page were read, which begin at a place."""
 
-    def __init__(self, length: int, begin: int, rows: Sequence[Any]) -> None:
+    def __init__(self, length: int, begin: int, rows: Sequence[Row]) -> None:
         self.length, self.begin, self.rows = length, begin, rows
 
     def __len__(self) -> int:
         return self.length
 
-    def __getitem__(self, places: Any) -> Any:
+    @overload
+    def __getitem__(self, places: int) -> Row: ...
+
+    @overload
+    def __getitem__(self, places: slice) -> Sequence[Row]: ...
+
+    def __getitem__(self, places: int | slice) -> Row | Sequence[Row]:
         if isinstance(places, slice):
             return self.rows[places.start - self.begin : places.stop - self.begin]
         return self.rows[places - self.begin]
@@ -126,9 +136,9 @@ def places_shown(count: int) -> range:
 def sorted_table(
     caption: str,
     columns: Sequence[str],
-    rows: Sequence[Sequence[Any]],
+    rows: Sequence[Row],
     right: Collection[str] = (),
-    show: Callable[[Sequence[Any]], Sequence[Any]] = lambda row: row,
+    show: Callable[[Row], Cells] = lambda row: row,
     name: str = "",
     empty: str = "",
 ) -> Markup:

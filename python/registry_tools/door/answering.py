@@ -17,7 +17,7 @@ import struct
 import sys
 import threading
 from pathlib import Path
-from typing import Any, BinaryIO, NamedTuple, TextIO, cast
+from typing import TYPE_CHECKING, BinaryIO, NamedTuple, TextIO, cast
 
 from registry_tools import elsewhere, frames, opening, steps, streams, tables
 from registry_tools.cli import main, placing
@@ -26,12 +26,14 @@ from registry_tools.errors import WORDS, WordsFault
 from registry_tools.frames import Broken
 from registry_tools.progress import progress
 
+if TYPE_CHECKING:
+    from _typeshed import ReadableBuffer
+
 # The words of a command have so many bytes at most, and its files in all.
 MOST_WORDS, MOST_SENT = 1 << 20, 1 << 28
 # So long a caller has to say them, in seconds.
 MOST_SECONDS = 300
 CALLED = ("./day", "registry-day")
-END = object()
 INTERRUPTED = 130
 
 
@@ -122,7 +124,8 @@ class There:
 
     def __init__(self, connection: socket.socket, stream: BinaryIO, aside: Path) -> None:
         self.connection, self.stream, self.aside = connection, stream, aside
-        self.queue: queue.SimpleQueue[Any] = queue.SimpleQueue()
+        # (behind the last frame stands nothing)
+        self.queue: queue.SimpleQueue[bytes | Path | None] = queue.SimpleQueue()
         self.written, self.is_over, self.is_gone = threading.Event(), False, False
         # (a signal goes to the thread that does the work)
         self.worker = threading.get_ident()
@@ -134,7 +137,7 @@ class There:
 
     def pass_on(self) -> None:
         """Sends what waits, one after another."""
-        while (kind := self.queue.get()) is not END:
+        while (kind := self.queue.get()) is not None:
             try:
                 if isinstance(kind, Path):
                     kind = frames.frame(frames.CONTENT, kind.read_bytes())
@@ -194,7 +197,7 @@ class There:
     def end(self, status: int) -> None:
         """Tells the status, and waits until all is sent."""
         self.queue.put(frames.frame(frames.STATUS, bytes([status])))
-        self.queue.put(END)
+        self.queue.put(None)
         self.threads[0].join()
 
 
@@ -217,7 +220,7 @@ class Stream(io.RawIOBase):
         """A descriptor that leads nowhere: this process has no standard streams of its own."""
         return 0
 
-    def write(self, content: Any) -> int:
+    def write(self, content: "ReadableBuffer") -> int:
         """Sends what is written. Raises OSError."""
         part = bytes(content)
         self.caller.send(self.kind, part)

@@ -18,7 +18,6 @@ import time
 from collections.abc import Mapping
 from dataclasses import dataclass
 from pathlib import Path
-from typing import Any
 
 from registry_tools import frames
 from registry_tools.cli.calling import COMMANDS
@@ -69,9 +68,11 @@ class Link:
     until: float
 
 
-def peer_of(environ: Mapping[str, Any]) -> Peer:
+def peer_of(environ: Mapping[str, object]) -> Peer:
     """Who is at the other end of the connection of a request."""
-    return peer_at(environ["gunicorn.socket"])
+    connection = environ["gunicorn.socket"]
+    assert isinstance(connection, socket.socket)
+    return peer_at(connection)
 
 
 def peer_at(connection: socket.socket) -> Peer:

@@ -4,9 +4,10 @@ import os
 import socket
 import struct
 from collections import deque
-from collections.abc import Callable
-from typing import Any
+from collections.abc import Callable, Sequence
+from typing import Protocol
 
+import flask
 from gunicorn.app.base import BaseApplication
 from gunicorn.http.errors import InvalidHeaderName
 from gunicorn.workers.gthread import ThreadWorker
@@ -30,6 +31,14 @@ OF_OTHERS = ("SCRIPT_NAME", "GUNICORN_PID", "GUNICORN_FD", "LISTEN_PID", "LISTEN
 BEGINS = "BEGINS"
 
 
+class Asked(Protocol):
+    """A request as gunicorn has read it."""
+
+    method: str
+    path: str
+    headers: Sequence[tuple[str, str]]
+
+
 class Worker(ThreadWorker):
     """Answers requests in several threads, and waits for nobody without end. Who has nothing to do here takes no
     thread: nothing of theirs is read."""
@@ -41,7 +50,7 @@ class Worker(ThreadWorker):
         self.refused = deque()
         super().init_process()
 
-    def accept(self, server: Any, listener: Any) -> None:
+    def accept(self, server: object, listener: socket.socket) -> None:
         """Takes a connection, if it may be: of a browser or of a link, or one by which a command is given."""
         coming: Coming = self.wsgi.config[BEGINS]
         if not str(server).endswith(COMMANDS):
@@ -59,14 +68,15 @@ class Worker(ThreadWorker):
                 log.told(f"a command cannot be begun: {error.strerror}")
                 frames.refuse(connection, f"the desk cannot begin it now: {error.strerror}")
 
-    def handle_request(self, req: Any, conn: Any) -> Any:
-        """Answers a request. A header with `_` in its name is refused: it would pass for the one with `-`, which a
-        proxy sets or takes away, and SCRIPT_NAME for what a server says."""
+    def handle_request(self, req: Asked, conn: object) -> bool:
+        """Answers a request, and says whether its connection goes on. A header with `_` in its name is refused: it
+        would pass for the one with `-`, which a proxy sets or takes away, and SCRIPT_NAME for what a server says."""
         strange = next((name for name, _ in req.headers if "_" in name), None)
         if strange is not None:
             log.refused("a connection", req.method, req.path, 400, f"the header {strange}, with _ for -")
             raise InvalidHeaderName(strange)
-        return super().handle_request(req, conn)
+        goes_on: bool = super().handle_request(req, conn)
+        return goes_on
 
 
 class Listener:
@@ -78,7 +88,7 @@ class Listener:
     ) -> None:  # fmt: skip
         self.listener, self.why_not, self.tell, self.refused = listener, why_not, tell, refused
 
-    def accept(self) -> tuple[socket.socket, Any]:
+    def accept(self) -> tuple[socket.socket, object]:
         """The next connection. Raises OSError if it is of somebody who may not come."""
         connection, client = self.listener.accept()
         why = self.why_not(connection)
@@ -102,7 +112,7 @@ def refuse_browser(connection: socket.socket, why: str) -> None:
     frames.send_at_once(connection, ANSWER.format(len(why.encode()) + 1, f"{why}\n").encode())
 
 
-def serve(app: Any, coming: Coming, path: str, threads: int, end: Callable[[], None]) -> None:
+def serve(app: flask.Flask, coming: Coming, path: str, threads: int, end: Callable[[], None]) -> None:
     """Answers requests at a socket until somebody ends it. `end` is done by the process that answers, at its end."""
     app.config[BEGINS] = coming
     # (gunicorn takes these from whoever started the desk: where it answers, and of whom it goes on)
@@ -121,7 +131,7 @@ def serve(app: Any, coming: Coming, path: str, threads: int, end: Callable[[], N
             }.items():  # fmt: skip
                 self.cfg.set(name, value)
 
-        def load(self) -> Any:
+        def load(self) -> flask.Flask:
             """What answers."""
             return app
 
