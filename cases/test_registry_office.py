@@ -7,6 +7,7 @@ import datetime
 import inspect
 import itertools
 import os
+import re
 import signal
 import subprocess
 import sys
@@ -159,6 +160,27 @@ def test_fault_has_its_way_out_apart(folder: office.Office) -> None:
     way = "./day close --date 2025-03-31 closes the next one"
     assert (raised.value.without_way(), raised.value.way) == ("name the day", way)
     assert str(raised.value) == f"name the day: {way}"
+
+
+@pytest.mark.parametrize(
+    "change, field, expected",
+    [
+        ("date = 'today'", "event 1", "an event"),
+        ("id = 9", "event 9", "1, the number behind the event before"),
+        ("before = 'x'", "event 1, before", "nothing"),
+        ("who = 'eve'", "event 1, line", None),
+    ],
+)
+def test_fault_of_an_event_has_its_way_out_apart(
+    folder: office.Office, change: str, field: str, expected: str | None
+) -> None:
+    changed(folder.path, f"UPDATE events SET {change} WHERE id = 1")
+    with pytest.raises(office.FileFault) as raised, office.open_folder(folder.path):
+        pass
+    fault = raised.value
+    # (the line that it would have is the sum of all that it says)
+    assert fault.field == field and (fault.expected == expected or re.fullmatch("[0-9a-f]{64}", fault.expected))
+    assert fault.way.endswith("put it back from a copy") and str(fault) == f"{fault.without_way()}: {fault.way}"
 
 
 def test_copy_and_questions_have_what_was_done(folder: office.Office, tmp_path: Path) -> None:

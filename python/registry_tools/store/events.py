@@ -211,7 +211,7 @@ class Events:
             try:
                 row = self.rows[number - 1] = row.event()
             except (ValueError, TypeError) as error:
-                raise FileFault(self.path, 0, f"event {number}", shown(str(error)), f"an event: {BACK}") from None
+                raise FileFault(self.path, 0, f"event {number}", shown(str(error)), "an event", BACK) from None
         return row
 
     def last(self) -> Event | None:
@@ -268,15 +268,15 @@ def faults_of(db: sqlite3.Connection, events: Events) -> Iterator[FileFault]:
         try:
             event, line = event_of(row), line_of(row[1:-1])
         except (ValueError, TypeError) as error:
-            yield FileFault(events.path, 0, where, shown(str(error)), f"an event: {BACK}")
+            yield FileFault(events.path, 0, where, shown(str(error)), "an event", BACK)
             continue
         if event.id != place:
-            expected = f"{place}, the number behind the event before: {BACK}"
-            yield FileFault(events.path, 0, where, str(event.id), expected)
+            yield FileFault(events.path, 0, where, str(event.id), f"{place}, the number behind the event before", BACK)
         if event.before != events.last_line:
-            yield FileFault(events.path, 0, f"{where}, before", shown(event.before), f"{events.last_line}: {BACK}")
+            expected = events.last_line or "nothing"
+            yield FileFault(events.path, 0, f"{where}, before", shown(event.before), expected, BACK)
         if event.line != line:
-            yield FileFault(events.path, 0, f"{where}, line", shown(event.line), f"{line}: {BACK}")
+            yield FileFault(events.path, 0, f"{where}, line", shown(event.line), line, BACK)
         wrong = does_not_follow(events, event)
         if wrong:
             yield FileFault(events.path, 0, where, event.what, wrong)
