@@ -100,20 +100,21 @@ def looked_up(name: str, said: argparse.Namespace) -> Iterator[None]:
         yield
 
 
-def look_up(name: str, office: Office, named: Any, said: argparse.Namespace) -> None:
+def look_up(name: str, office: Office, named: str | list[str], said: argparse.Namespace) -> None:
     """Does so with the days of an open folder."""
+    dates = named if isinstance(named, list) else [named]
     if TAKES[name] == REPORTS:
-        pairs = [office.store.pair_of(day_named(office, date)) for date in named]
+        pairs = [office.store.pair_of(day_named(office, date)) for date in dates]
         said.days, said.reports = [pair.day for pair in pairs], [pair.report for pair in pairs]
         return
-    pair = office.store.pair_of(day_named(office, named))
+    pair = office.store.pair_of(day_named(office, dates[0]))
     said.day = pair.day
     if TAKES[name] == PAIR:
         said.report = pair.report
     if name in TAKE_NAMES:
         said.names = office.names()
     if name == "page":
-        look_up_more(office, named, said)
+        look_up_more(office, dates[0], said)
 
 
 def look_up_more(office: Office, date: str, said: argparse.Namespace) -> None:

@@ -9,7 +9,7 @@
 
 A difference stays right if the day before it is undone and closed again: it is laid over what that day then leaves.
 """
-from typing import Any, Iterable, NamedTuple
+from typing import Iterable, NamedTuple
 
 from registry_tools import tables, voice
 from registry_tools.errors import WordsFault, shown
@@ -22,7 +22,7 @@ OPEN, PUT, ADD, DROP = "open", "put", "add", "drop"
 ACCOUNT_FIELDS = {field.name: field for field in faults.FIELDS["account"]}
 # The rows of a later period are looked at once more in the day, which knows its periods.
 PERIOD = faults.number("PERIOD", 1, tables.MOST_PERIODS)
-FIELDS = {
+FIELDS: dict[str, list[faults.Field[faults.Value]]] = {
     **faults.FIELDS,
     "current": [PERIOD],
     "correction": [PERIOD, faults.signed("FACTOR", tables.MOST_CORRECTION, may_be_zero=False)],
@@ -74,7 +74,7 @@ def account_number(word: str) -> int:
     return int(value_of(ACCOUNT_FIELDS["NO"], word))
 
 
-def value_of(field: faults.Field, word: str) -> Any:
+def value_of(field: faults.Field[faults.V], word: str) -> faults.V:
     """What a field says. Ends the command if it is no such field."""
     try:
         return field.read(word)

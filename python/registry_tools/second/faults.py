@@ -5,19 +5,19 @@ the program with (`cases/run-second-answer`). The commands of `./day` read each 
 The fields of each row stand in `fields`.
 """
 from dataclasses import dataclass, field
-from typing import Any, Sequence
+from typing import Sequence
 
 from registry_tools import tables
 from registry_tools.second.days import KINDS, OPERATORS, fields_in
 from registry_tools.second.fields import (
-    ACCOUNT_KINDS, ACTS, ACT_WORDS, BLOCK, DISTRIBUTE, FIELDS, LISTS, PROPOSAL, RISING, STATUSES, Fault, Field, act,
-    date, fields_of_act, form_of, forms_of_act, maybe, number, one_of, signed,
+    ACCOUNT_KINDS, ACTS, ACT_WORDS, BLOCK, DISTRIBUTE, FIELDS, LISTS, PROPOSAL, RISING, STATUSES, Fault, Field, V,
+    Value, act, date, fields_of_act, form_of, forms_of_act, maybe, number, one_of, signed,
 )  # fmt: skip
 from registry_tools.tables import MOST_CORRECTION, MOST_PERIODS, MOST_RECORD, MOST_RETIRED, MOST_U64
 
 __all__ = [
     "ACCOUNT_KINDS", "ACTS", "ACT_WORDS", "BLOCK", "DISTRIBUTE", "FIELDS", "LISTS", "MOST", "PROPOSAL", "RISING",
-    "STATUSES", "Fault", "Field", "Reading", "act", "date", "fields_of_act", "first_fault", "form_of",
+    "STATUSES", "Fault", "Field", "Reading", "V", "Value", "act", "date", "fields_of_act", "first_fault", "form_of",
     "forms_of_act", "maybe", "number", "one_of", "read_field", "signed", "words_of_key",
 ]  # fmt: skip
 
@@ -28,7 +28,7 @@ MOST = {
 }  # fmt: skip
 
 # By what the rows of a list rise: a number, a date as it is spelled, or two words by their places.
-Key = tuple[Any, ...]
+Key = tuple[Value, ...]
 
 
 @dataclass
@@ -60,7 +60,7 @@ class Reading:
             later.remove("correction")
         return [*later, "account", "do", "end"]
 
-    def forms(self, tag: str) -> list[list[Field]]:
+    def forms(self, tag: str) -> list[list[Field[Value]]]:
         """The fields that a row may have: of a surrender in version 2, also those with its period."""
         periods = len(self.last_years)
         if tag == "current":
@@ -71,7 +71,7 @@ class Reading:
             return [FIELDS[tag], [*FIELDS[tag], number("PERIOD", 2, periods)]]
         return [FIELDS[tag]]
 
-    def fields(self, tag: str, words: list[str]) -> list[Field]:
+    def fields(self, tag: str, words: list[str]) -> list[Field[Value]]:
         """The fields of a row, or the cause why there are too many or too few of them."""
         if tag == "do":
             return self.fields_of_instruction(words)
@@ -81,7 +81,7 @@ class Reading:
                 return fields
         raise Fault("fields", f"{len(forms[0]) + 1} fields: {form_of(tag, forms[0])}")
 
-    def fields_of_instruction(self, words: list[str]) -> list[Field]:
+    def fields_of_instruction(self, words: list[str]) -> list[Field[Value]]:
         """The fields of a `do` row. Raises Fault if it has no act, or too few or too many fields."""
         if len(words) < 4:
             raise Fault("fields", "at least 5 fields: " + form_of("do", [*PROPOSAL, act]) + ",..")
@@ -92,7 +92,7 @@ class Reading:
             raise Fault("fields", forms_of_act(words[3]))
         return [*PROPOSAL, act, *more]
 
-    def key(self, tag: str, values: list[Any]) -> Key | None:
+    def key(self, tag: str, values: list[Value]) -> Key | None:
         """By what the rows of a list rise."""
         if tag == "surrender":
             return ACCOUNT_KINDS.index(values[0]), KINDS.index(values[1])
@@ -107,7 +107,7 @@ class Reading:
         if tag not in allowed:
             raise Fault("tag", f"a row {' or '.join(allowed)}", 1, "tag")
         fields = self.fields(tag, words)
-        values = [*map(read_field, fields, words, range(2, len(words) + 2))]
+        values = [read_field(field, word, place) for place, (field, word) in enumerate(zip(fields, words), 2)]
         if tag == "surrender" and values[0] not in OPERATORS:
             raise Fault("word", "operator or aircraft", 2, "ACCOUNTKIND")
         if tag == "retired" and values[1] == "deletion" and len(values) == 7:
@@ -116,24 +116,25 @@ class Reading:
         if tag == "format":
             self.version = int(values[0])
         elif tag == "day":
-            self.next_record = values[1]
+            self.next_record = int(values[1])
         self.last = tag
 
-    def add_to_list(self, tag: str, values: list[Any], name: str) -> None:
+    def add_to_list(self, tag: str, values: list[Value], name: str) -> None:
         """Adds a row of a list. Raises Fault if it does not rise, or is one too many."""
         key, count = self.key(tag, values), self.counts.get(tag, 0)
         if key is not None and tag in self.before and key <= self.before[tag]:
             expected = f"{tag} rows that rise: this one stands behind {tag},{words_of_key(tag, self.before[tag])}"
             raise Fault("order", expected, 2, name)
         if tag == "period":
-            self.add_period(*values)
+            self.add_period(*map(int, values))
         if count >= MOST.get(tag, MOST_U64):
             raise Fault("limit", f"at most {MOST[tag]} {tag} rows{' of an account' if tag in BLOCK[1:] else ''}")
         if tag == "do" and self.next_record + count > MOST_RECORD:
             record = self.next_record + count
             raise Fault("limit", f"record numbers up to {MOST_RECORD}: this instruction would get {record}")
         if tag == "retired":
-            self.add_retired(*values[:6])
+            number, what, kind, amount, _, is_reversed = values[:6]
+            self.add_retired(int(number), str(what), str(kind), int(amount), is_reversed == "yes")
         if tag == "account":
             # The lists of the account before are over.
             self.retired = {}
@@ -155,9 +156,9 @@ class Reading:
             raise Fault("limit", f"at most {MOST_PERIODS} period rows")
         self.last_years.append(last)
 
-    def add_retired(self, number: int, what: str, kind: str, amount: int, day: str, is_reversed: str) -> None:
+    def add_retired(self, number: int, what: str, kind: str, amount: int, is_reversed: bool) -> None:
         """Adds a surrender or deletion. Raises Fault if its number is too high, or the sum too large."""
-        together = self.retired.get((what, kind), 0) + (amount if is_reversed == "no" else 0)
+        together = self.retired.get((what, kind), 0) + (0 if is_reversed else amount)
         if number >= self.next_record:
             raise Fault("limit", f"a record number below the next one, {self.next_record}", 2, "NUMBER")
         if together > MOST_RETIRED:
@@ -166,7 +167,7 @@ class Reading:
         self.retired[what, kind] = together
 
 
-def read_field(expected: Field, word: str, place: int) -> Any:
+def read_field(expected: Field[V], word: str, place: int) -> V:
     """What a field says. A fault gets the field's place, counted from 1."""
     try:
         return expected.read(word)
@@ -176,7 +177,7 @@ def read_field(expected: Field, word: str, place: int) -> Any:
 
 def words_of_key(tag: str, key: Key) -> str:
     """A key as the fields of its row say it."""
-    return f"{ACCOUNT_KINDS[key[0]]},{KINDS[key[1]]}" if tag == "surrender" else str(key[0])
+    return f"{ACCOUNT_KINDS[int(key[0])]},{KINDS[int(key[1])]}" if tag == "surrender" else str(key[0])
 
 
 def first_fault(text: bytes) -> str:

@@ -2,7 +2,8 @@
 docs/FORMATS.md, and not from the program or its definitions."""
 import datetime
 import re
-from typing import Any, Callable, Iterable, NamedTuple, Sequence
+from dataclasses import dataclass, replace
+from typing import Callable, Generic, Iterable, Sequence, TypeVar
 
 from registry_tools import tables
 from registry_tools.second.days import KINDS
@@ -29,19 +30,27 @@ class Fault(Exception):
         self.earlier, self.highest = "", 0
 
 
-class Field(NamedTuple):
+# What fields say, as they are read.
+Value = str | int
+V = TypeVar("V", bound=Value)
+V_co = TypeVar("V_co", bound=Value, covariant=True)
+
+
+# (one is made for some rows: frozen, that would take twice the time)
+@dataclass
+class Field(Generic[V_co]):
     """A field of a row: its name, how it is read, and what it may hold, in words; and the numbers or the words that it
     may hold. A date has neither."""
 
     name: str
-    read: Callable[[str], Any]
+    read: Callable[[str], V_co]
     expected: str
     numbers: tuple[range, ...] = ()
     words: Sequence[str] = ()
 
-    def called(self, name: str) -> "Field":
+    def called(self, name: str) -> "Field[V_co]":
         """The same field with another name."""
-        return self._replace(name=name)
+        return replace(self, name=name)
 
 
 # Fields: each is read by a function, which answers what it says.
@@ -53,7 +62,7 @@ def is_too_large(digits: str) -> bool:
     return len(digits) > MOST_DIGITS or int(digits) > MOST_U64
 
 
-def number(name: str, low: int, high: int) -> Field:
+def number(name: str, low: int, high: int) -> Field[int]:
     """A field with a number between two limits."""
 
     def read(word: str) -> int:
@@ -70,7 +79,7 @@ def number(name: str, low: int, high: int) -> Field:
     return Field(name, read, expected, (range(low, high + 1),))
 
 
-def signed(name: str, most: int, may_be_zero: bool = True) -> Field:
+def signed(name: str, most: int, may_be_zero: bool = True) -> Field[int]:
     """A field with a number that may be negative."""
 
     def read(word: str) -> int:
@@ -100,12 +109,12 @@ def read_date(word: str) -> str:
     return word
 
 
-def date(name: str) -> Field:
+def date(name: str) -> Field[str]:
     """A field with a date."""
     return Field(name, read_date, f"a date YYYY-MM-DD that exists, from {FIRST_YEAR}-01-01 to {LAST_YEAR}-12-31")
 
 
-def one_of(name: str, words: Sequence[str], cause: str = "word") -> Field:
+def one_of(name: str, words: Sequence[str], cause: str = "word") -> Field[str]:
     """A field with one of these words."""
 
     def read(word: str) -> str:
@@ -116,12 +125,16 @@ def one_of(name: str, words: Sequence[str], cause: str = "word") -> Field:
     return Field(name, read, "one of the words " + ", ".join(words) if len(words) > 1 else words[0], words=words)
 
 
-def maybe(field: Field) -> Field:
+def maybe(field: Field[V]) -> Field[V | str]:
     """A field that may be empty."""
-    return Field(field.name, lambda word: word and field.read(word), f"nothing, or {field.expected}")
+
+    def read(word: str) -> V | str:
+        return field.read(word) if word else ""
+
+    return Field(field.name, read, f"nothing, or {field.expected}")
 
 
-def an_account(name: str) -> Field:
+def an_account(name: str) -> Field[int]:
     """A field with the number of an account."""
     return number(name, 1, MOST_NUMBER)
 
@@ -134,7 +147,7 @@ kind = one_of("KIND", KINDS)
 status = one_of("STATUS", STATUSES)
 
 # The fields of each row behind its tag; what depends on earlier rows is in `Reading.fields`.
-FIELDS: dict[str, list[Field]] = {
+FIELDS: dict[str, list[Field[Value]]] = {
     "format": [one_of("VERSION", ("1", "2"), "version")],
     "day": [date("DATE"), number("NEXT", 1, MOST_RECORD + 1)],
     "period": [year.called("FIRST"), year.called("LAST")],
@@ -157,8 +170,8 @@ FIELDS: dict[str, list[Field]] = {
     "figure": [year, signed("FIGURE", MOST_FIGURE)],
     "end": [],
 }  # fmt: skip
-PROPOSAL = [date("PROPOSED"), an_account("PROPOSER"), maybe(an_account("APPROVER"))]
-OF_ACTS = {
+PROPOSAL: list[Field[Value]] = [date("PROPOSED"), an_account("PROPOSER"), maybe(an_account("APPROVER"))]
+OF_ACTS: dict[str, Field[Value]] = {
     **{name: an_account(name) for name in ("FROM", "TO", "ACCOUNT", "OTHER")}, "KIND": kind, "AMOUNT": any_amount,
     "NUMBER": record, "STATUS": status, "YEAR": year, "TONNES": any_amount.called("TONNES"),
 }  # fmt: skip
@@ -169,7 +182,7 @@ act = one_of("ACT", ACT_WORDS)
 RISING = {"surrender", "admin", "work", *BLOCK}
 
 
-def fields_of_act(word: str, count: int) -> list[Field] | None:
+def fields_of_act(word: str, count: int) -> list[Field[Value]] | None:
     """The fields of an act that has so many; None if it cannot have so many."""
     if word != DISTRIBUTE:
         return ACTS[word] if count == len(ACTS[word]) else None
@@ -179,7 +192,7 @@ def fields_of_act(word: str, count: int) -> list[Field] | None:
     return [*ACTS[word][:2], *ACTS[word][2:] * shares]
 
 
-def form_of(tag: str, fields: Iterable[Field]) -> str:
+def form_of(tag: str, fields: Iterable[Field[Value]]) -> str:
     """A row as docs/FORMATS.md shows it."""
     return ",".join([tag, *(field.name for field in fields)])
 

@@ -8,7 +8,6 @@ import re
 from collections.abc import Mapping
 from dataclasses import dataclass
 from pathlib import Path
-from typing import Any
 
 from registry_tools.errors import RowFault, shown
 from registry_tools.progress import progress
@@ -41,7 +40,9 @@ class Accounts(dict[int, rules.Account]):
     def __contains__(self, number: object) -> bool:
         return number in self.book
 
-    def get(self, number: int, default: Any = None) -> Any:
+    def get(  # type: ignore[override]
+        self, number: int, default: rules.Account | None = None
+    ) -> rules.Account | None:
         """The account with this number, or what is said for none."""
         return self[number] if number in self else default
 
@@ -110,7 +111,7 @@ class Reader:
         """Adds accounts that stand so in the known book, if there are some and they may stand here."""
         reading = self.reading
         (last,), count = reading.before.get("account", (0,)), reading.counts.get("account", 0) + len(run.same)
-        if not run.same or run.same[0].number <= last or count > faults.MOST["account"]:
+        if not run.same or run.same[0].number <= int(last) or count > faults.MOST["account"]:
             return False
         reading.before["account"], reading.counts["account"] = (run.same[-1].number,), count
         reading.last = self.source.rows[run.behind - 1].partition(",")[0]
@@ -134,7 +135,7 @@ class Reader:
         match = ACCOUNT_ROW.fullmatch(rows[0])
         (last,), count = reading.before.get("account", (0,)), reading.counts.get("account", 0)
         number = int(match[1]) if match else 0
-        if number <= last or count >= faults.MOST["account"] or self.source.unplain:
+        if number <= int(last) or count >= faults.MOST["account"] or self.source.unplain:
             return False
         is_known = number in known and known[number].list_rows == rows[1:]
         if not is_known and not has_no_fault(rows[1:], pattern, reading.next_record):

@@ -54,7 +54,7 @@ def dates() -> str:
     return f"(?:{of_years(YEARS)})-(?:{days})|(?:{leap_years})-02-29"
 
 
-def of_field(field: faults.Field) -> str:
+def of_field(field: faults.Field[faults.Value]) -> str:
     """The pattern of a field of numbers, words or a date."""
     if field.words:
         return "|".join(map(re.escape, field.words))
@@ -63,7 +63,7 @@ def of_field(field: faults.Field) -> str:
     return dates()
 
 
-def of_row(tag: str, forms: list[list[faults.Field]]) -> str:
+def of_row(tag: str, forms: list[list[faults.Field[faults.Value]]]) -> str:
     """The pattern of a row, whose one group is its first field. If it has two forms, the second has more fields behind
     those of the first."""
     (first, *rest), *longer = forms

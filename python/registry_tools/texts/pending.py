@@ -14,7 +14,7 @@ without the row `made` was written by hand.
 import datetime
 from dataclasses import dataclass, field
 from pathlib import Path
-from typing import Any, NamedTuple
+from typing import NamedTuple
 
 from registry_tools import tables
 from registry_tools.errors import FileFault, WordsFault, of_file, shown
@@ -31,7 +31,7 @@ FORMS = {
     ENTERED: "entered,RECORD,DATE,PROPOSED,PROPOSER,APPROVER,ACT,..",
 }
 FEWEST_FIELDS = 7
-MADE_FIELDS = [faults.date("DATE"), faults.number("NEXT", 1, tables.MOST_RECORD + 1)]
+MADE_FIELDS: list[faults.Field[faults.Value]] = [faults.date("DATE"), faults.number("NEXT", 1, tables.MOST_RECORD + 1)]
 
 
 class Made(NamedTuple):
@@ -113,7 +113,7 @@ def waiting_of(source: Rows, index: int) -> Waiting:
     return Waiting(int(record) if record else None, rules.read_instruction(fields[3:]), entered, due, place)
 
 
-def read_field(source: Rows, index: int, field: faults.Field, word: str) -> Any:
+def read_field(source: Rows, index: int, field: faults.Field[faults.V], word: str) -> faults.V:
     """What a field says. Raises FileFault if it is no such field."""
     try:
         return field.read(word)
@@ -139,7 +139,7 @@ def made_of(source: Rows) -> Made | None:
         expected = f"{1 + len(MADE_FIELDS)} fields: {faults.form_of(MADE, MADE_FIELDS)}"
         raise source.fault(0, f"{MADE} row", f"{len(fields)} fields", expected)
     date, next_record = (read_field(source, 0, field, word) for field, word in zip(MADE_FIELDS, fields[1:]))
-    return Made(datetime.date.fromisoformat(date), next_record)
+    return Made(datetime.date.fromisoformat(str(date)), int(next_record))
 
 
 def read_pending(path: str) -> PendingFile:

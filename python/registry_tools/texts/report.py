@@ -1,9 +1,9 @@
 """Reads reports: log rows, the book behind the day, and the totals, each row with its line."""
 import datetime
 import re
-from dataclasses import dataclass, field
+from collections.abc import Sequence
+from dataclasses import dataclass, field, replace
 from pathlib import Path
-from typing import Any
 
 from registry_tools import tables
 from registry_tools.errors import shown
@@ -78,7 +78,7 @@ UNKNOWN = CHECK_NAMES[0]
 RECORD = faults.number("RECORD", 1, tables.MOST_RECORD)
 DATE = faults.date("DATE")
 OUTCOME = faults.one_of("OUTCOME", ("done", "refused"))
-NO_FIGURE = faults.one_of("FIGURE", [""])._replace(expected="nothing: only an assessment has a figure")
+NO_FIGURE = replace(faults.one_of("FIGURE", [""]), expected="nothing: only an assessment has a figure")
 FIGURE = faults.signed("FIGURE", tables.MOST_FIGURE)
 HELD = (faults.number("GENERAL", 0, tables.MOST_HELD), faults.number("AVIATION", 0, tables.MOST_HELD))
 CODE = faults.number("CODE", 1, len(CHECK_NAMES))
@@ -93,9 +93,7 @@ def read_sum(word: str) -> int:
     return int(word)
 
 
-def sums(*names: str) -> list[faults.Field]:
-    """Fields with sums over all accounts."""
-    return [faults.Field(name, read_sum, "a number, in plain digits") for name in names]
+SUMS = [faults.Field(name, read_sum, "a number, in plain digits") for name in ("HELD", "SURRENDERED", "DELETED")]
 
 
 class LogFields:
@@ -105,14 +103,14 @@ class LogFields:
         self.reader, self.index, self.place = reader, index, 1
         self.fields = reader.source.fields(index)
 
-    def next(self, field: faults.Field) -> Any:
+    def next(self, field: faults.Field[faults.V]) -> faults.V:
         """The next field, which must be such a one."""
         if self.place >= len(self.fields):
             raise self.reader.source.fault(self.index, "log row", f"no field {field.name}", field.expected)
         self.place += 1
         return self.checked(field, self.place - 1)
 
-    def checked(self, field: faults.Field, place: int) -> Any:
+    def checked(self, field: faults.Field[faults.V], place: int) -> faults.V:
         """What the field at a place says. Raises a fault if it is no such field."""
         try:
             return field.read(self.fields[place])
@@ -154,10 +152,13 @@ def log_row(reader: Reader, index: int) -> LogRow:
     source = reader.source
     logged = LogRow(source.rows[index], source.line(index), record, date, instruction, is_done)
     if is_done:
-        logged.figure = fields.next(FIGURE) if instruction.act == "assess" else fields.next(NO_FIGURE) or None
+        if instruction.act == "assess":
+            logged.figure = fields.next(FIGURE)
+        else:
+            fields.next(NO_FIGURE)
         for number in rules.named(instruction):
             fields.next(faults.one_of("NO", [str(number)]))
-            logged.held[number] = dict(zip(rules.KINDS, map(fields.next, HELD)))
+            logged.held[number] = {kind: fields.next(held) for kind, held in zip(rules.KINDS, HELD)}
     else:
         logged.code = fields.next(CODE)
         logged.name = fields.next(faults.one_of("NAME", [CHECK_NAMES[logged.code - 1]]))
@@ -165,7 +166,7 @@ def log_row(reader: Reader, index: int) -> LogRow:
     return logged
 
 
-def written_row(source: Rows, index: int, tag: str, fields: list[faults.Field]) -> list[Any]:
+def written_row(source: Rows, index: int, tag: str, fields: Sequence[faults.Field[faults.V]]) -> list[faults.V]:
     """The values of a row that only a report has."""
     if index >= len(source):
         raise source.fault(index, tag, "the end of the file", f"a row {faults.form_of(tag, fields)}")
@@ -205,8 +206,8 @@ def report_of(source: Rows, day: DayText | None = None) -> Report:
     first_totals = index
     totals: dict[str, list[int]] = {}
     for kind in rules.KINDS:
-        fields = [faults.one_of(kind, [kind]), *sums("HELD", "SURRENDERED", "DELETED")]
-        totals[kind] = written_row(source, index, "totals", fields)[1:]
+        fields: list[faults.Field[faults.Value]] = [faults.one_of(kind, [kind]), *SUMS]
+        totals[kind] = [*map(int, written_row(source, index, "totals", fields)[1:])]
         index += 1
     written_row(source, index, "end", [])
     if index + 1 < len(source):
