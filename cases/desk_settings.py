@@ -224,6 +224,7 @@ def year_trials() -> Iterator[Told]:
         ("again each year", begin + b"DTSTART:20270101\nRRULE:FREQ=YEARLY" + end),
         ("a hundred years", begin + b"DTSTART:20270101\nDTEND:21270101" + end),
         ("an end before its begin", begin + b"DTSTART;VALUE=DATE:20270105\nDTEND;VALUE=DATE:20270101" + end),
+        ("an end on the day before", begin + b"DTSTART;VALUE=DATE:20270105\nDTEND;VALUE=DATE:20270104" + end),
         ("too many", b"BEGIN:VCALENDAR\n" + b"BEGIN:VEVENT\nDTSTART:20270101\nEND:VEVENT\n" * 10_001),
     ):  # fmt: skip
         try:

@@ -265,6 +265,15 @@ def test_status_tells_programs_when_what_waits_is_due(tmp_path: Path) -> None:
     assert rows == [["waiting", "2025-09-23", 61004], ["waiting", "2025-09-24", 61005]]
 
 
+def test_status_tells_a_text_of_the_last_day_that_is_gone(folder: office.Office) -> None:
+    assert office.status(folder).faults == []
+    closed(folder)
+    assert office.status(folder).faults == []
+    changed(folder.path, "DELETE FROM texts WHERE sum = (SELECT report FROM events WHERE what = 'filed')")
+    told = [str(fault) for fault in office.status(folder).faults]
+    assert len(told) == 1 and "no such text" in told[0], told
+
+
 def test_who_looks_lets_go_of_no_lock(folder: office.Office) -> None:
     """While a process changes a folder, and looks at it in another thread, no other process changes it."""
     command: list[Word] = [TOP / "day", "label", "user", "1", "x", "--why", "x", "--office", folder.path]

@@ -55,7 +55,7 @@ def filed_day(source: Rows, before: Report | None = None, has_book: bool = True)
 
 def filed_report(source: Rows, day: DayText) -> Report:
     """The report of these rows, which is that of a day. Raises ValueError if it can't be one."""
-    reader, log, rows = Reader(source, faults.Reading(last="work", version=2)), list[LogRow](), source.rows
+    reader, log, rows = Reader(source, faults.Reading()), list[LogRow](), source.rows
     while rows[len(log)].startswith("log,"):
         log.append(log_row(reader, len(log)))
     book, behind, others = book_of(source, len(log) + 1, day.book)
