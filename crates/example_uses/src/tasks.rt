@@ -9,7 +9,7 @@ ghost use Rattle.reg_tasks.specs.Names.{has_names, IsRowOfDay, AreLeft};
 ghost use Rattle.reg_tasks.specs.Parcels.{names_of};
 ghost use Rattle.reg_tasks.specs.Places.{IsPlaceOf};
 
-use reg_tasks::{Context, Naming, Outcome, Parcel, Task};
+use reg_tasks::{Context, Naming, Parcel, Task, TaskOutcome};
 use std::alloc::Global;
 
 /// Runs the instruction at a place, counted from 1, on these values of accounts, if they are those that it needs.
@@ -19,7 +19,7 @@ pub fn run_on<N: Naming>(
     context: &Context<N>,
     place: u32,
     parcels: Vec<Parcel<N>>,
-) -> Option<Outcome<N>>
+) -> Option<TaskOutcome<N>>
     requires place { IsPlaceOf context.now.batch.now place }
     ensures needed { IfSome result
         (λ _. has_names (names_of parcels.items)

@@ -3,7 +3,7 @@
 ghost use Rattle.std.specs.Prelude.{◌≡◌, Some, IfSome};
 ghost use Rattle.reg_yard.specs.Parcels.{parcel_of, goes_to};
 
-use reg_tasks::{Context, Naming, Outcome, Parcel};
+use reg_tasks::{Context, Naming, Parcel, TaskOutcome};
 use reg_yard::Docks;
 use std::alloc::Global;
 use std::sync::Wait;
@@ -17,7 +17,7 @@ pub fn deliver_and_run<N: Naming, R: Wait>(
     context: &Context<N>,
     docks: &Docks<N>,
     parcel: Parcel<N>,
-) -> Option<Outcome<N>>
+) -> Option<TaskOutcome<N>>
     ensures { IfSome result (λ o. goes_to docks.now.context.now.plan (parcel_of parcel) ≡ Some o.place) }
 {
     let task = docks.deliver(wait, parcel).ok()??;

@@ -8,7 +8,7 @@ use Rattle.std.proofs.Math.Seq.{take-append_seam}
 use Rattle.reg_base.specs.declared.limits.TheConstants.{MOST_HELD, MOST_TRUSTED}
 use Rattle.reg_base.specs.declared.kinds.AllowanceKind.{AllowanceKind}
 use Rattle.reg_base.specs.declared.kinds.AllowanceKind.TheVariants.{General, Aviation}
-use Rattle.reg_account.specs.declared.parts.Holdings.{Holdings}
+use Rattle.reg_account.specs.declared.account_parts.Holdings.{Holdings}
 use Rattle.reg_account.specs.declared.trusted.TrustedEntry.{TrustedEntry}
 use Rattle.reg_account.specs.declared.rows.RetirementRow.{RetirementRow}
 use Rattle.reg_account.specs.declared.years.Emission.{Emission}

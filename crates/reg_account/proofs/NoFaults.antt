@@ -17,10 +17,10 @@ use Rattle.reg_base.specs.declared.kinds.AllowanceKind.TheVariants.{General, Avi
 use Rattle.reg_base.specs.Numbers.{IsAccountNo, IsHolderNo}
 use Rattle.reg_base.specs.Rising.{IsRising, is_rising_from}
 use Rattle.reg_base.proofs.lemmas.RisesFrom.{RisesFrom}
-use Rattle.reg_account.specs.declared.parts.AccountFault.{AccountFault}
-use Rattle.reg_account.specs.declared.parts.AccountFault.TheVariants as fault
-use Rattle.reg_account.specs.declared.parts.AccountFault.TheVariants.{Holding, Users, Trusted, Rows, Retired, Emissions}
-use Rattle.reg_account.specs.declared.parts.AccountFault.TheVariants.{Figures}
+use Rattle.reg_account.specs.declared.account_parts.AccountFault.{AccountFault}
+use Rattle.reg_account.specs.declared.account_parts.AccountFault.TheVariants as fault
+use Rattle.reg_account.specs.declared.account_parts.AccountFault.TheVariants.{Holding, Users, Trusted, Rows, Retired}
+use Rattle.reg_account.specs.declared.account_parts.AccountFault.TheVariants.{Emissions, Figures}
 use Rattle.reg_account.specs.declared.corrections.Correction.{Correction}
 use Rattle.reg_account.specs.declared.users.Representative.{Representative}
 use Rattle.reg_account.specs.declared.trusted.TrustedEntry.{TrustedEntry}

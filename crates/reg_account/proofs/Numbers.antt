@@ -3,7 +3,7 @@ use Rattle.std.proofs.Common.{◌≡◌, ℕ, ◌+◌, ◌-◌, ◌≤◌, Bool,
 use Rattle.std.specs.Prelude.{not}
 use Rattle.reg_base.specs.declared.kinds.AllowanceKind.{AllowanceKind}
 use Rattle.reg_base.specs.declared.kinds.AllowanceKind.TheVariants.{General, Aviation}
-use Rattle.reg_account.specs.declared.parts.Holdings.{Holdings}
+use Rattle.reg_account.specs.declared.account_parts.Holdings.{Holdings}
 use Rattle.reg_base.specs.declared.kinds.Retirement.{Retirement}
 use Rattle.reg_base.specs.declared.kinds.Retirement.TheVariants.{Surrendered, Deleted}
 use Rattle.reg_account.specs.declared.rows.RetirementRow.{RetirementRow}

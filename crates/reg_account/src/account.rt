@@ -6,10 +6,10 @@ ghost use Rattle.std.specs.Result.{result_err};
 ghost use Rattle.reg_account.specs.Account.{account_of, amount_of, with_amount, first_account_fault};
 ghost use Rattle.reg_base.specs.declared.limits.TheConstants.{MOST_HELD, MOST_RETIRED, MOST_EMISSIONS};
 
+use crate::account_parts::{AccountFault, AccountParts, Holdings};
 use crate::corrections::{Correction, find_factor};
 use crate::faults::find_fault;
 use crate::figure::{FigureFault, figure_of};
-use crate::parts::{AccountFault, AccountParts, Holdings};
 use crate::ranges::{know_emissions, know_figures, know_row, know_rows};
 use crate::rows::{RetirementRow, find_row};
 use crate::trusted::{TrustedEntry, find_effective, is_in_effect, know_entries};

@@ -13,9 +13,9 @@ ghost use Rattle.reg_account.specs.Years.{emission_years, figure_years, is_emiss
 ghost use Rattle.reg_account.specs.Years.{is_figure_unfit, are_figures_unfit};
 ghost use Rattle.reg_account.specs.Account.{account_of, account_has, first_account_fault};
 
+use crate::account_parts::{AccountFault, AccountParts};
 use crate::corrections::Correction;
 use crate::lists::Lists;
-use crate::parts::{AccountFault, AccountParts};
 use crate::rows::{Fate, RetirementRow};
 use crate::trusted::TrustedEntry;
 use crate::users::Representative;

@@ -31,6 +31,7 @@
 #![tactic(auto)]
 
 mod account;
+mod account_parts;
 mod corrections;
 mod faults;
 mod figure;
@@ -38,7 +39,6 @@ mod history;
 mod kept;
 pub mod laws;
 mod lists;
-mod parts;
 mod ranges;
 mod rows;
 mod sums;
@@ -47,10 +47,10 @@ mod users;
 mod years;
 
 pub use account::Account;
+pub use account_parts::{AccountFault, AccountParts, Holdings};
 pub use corrections::Correction;
 pub use figure::FigureFault;
 pub use lists::Lists;
-pub use parts::{AccountFault, AccountParts, Holdings};
 pub use reg_base::Retirement;
 pub use rows::{Fate, RetirementRow};
 pub use trusted::TrustedEntry;

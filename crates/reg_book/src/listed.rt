@@ -106,7 +106,7 @@ impl ListedAccounts {
             ..
         } = others;
         self.entries.reserve(awaited.max(entries.len()))?;
-        put_behind(&mut self.before, &mut self.last, before, last)?;
+        append_lists(&mut self.before, &mut self.last, before, last)?;
         self.entries.append(&mut entries).unwrap();
         Ok(())
     }
@@ -176,7 +176,7 @@ fn begin_list(before: &mut Vec<Vec<Account>>, last: &mut Vec<Account>) -> Result
 }
 
 // Puts other lists behind these.
-fn put_behind(
+fn append_lists(
     before: &mut Vec<Vec<Account>>,
     last: &mut Vec<Account>,
     others: Vec<Vec<Account>>,

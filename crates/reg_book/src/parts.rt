@@ -197,7 +197,7 @@ fn count_accounts(lists: &[Vec<Account>]) -> usize {
 }
 
 // Moves the accounts of lists behind others. Whatever comes of it, all the accounts stay, in their order.
-fn put_behind(all: &mut Vec<Account>, lists: &mut [Vec<Account>]) -> Result<(), NoMemory>
+fn move_behind(all: &mut Vec<Account>, lists: &mut [Vec<Account>]) -> Result<(), NoMemory>
     ensures same { all.new.items ++ joined_lists lists.new ≡ all.old.items ++ joined_lists lists.old }
     ensures moved { OnOk result (joined_lists lists.new ≡ []) }
 {
@@ -205,7 +205,7 @@ fn put_behind(all: &mut Vec<Account>, lists: &mut [Vec<Account>]) -> Result<(), 
         return Ok(());
     };
     all.append(list)?;
-    put_behind(all, behind)
+    move_behind(all, behind)
 }
 
 // The accounts of lists in one list. They are moved into the first list, in which room for all is made before. If
@@ -219,7 +219,7 @@ fn join(alloc: Global, lists: &mut [Vec<Account>]) -> Result<Vec<Account>, NoMem
         return Ok(Vec::new(alloc));
     };
     first.reserve(count.saturating_sub(first.len()))?;
-    put_behind(first, behind)?;
+    move_behind(first, behind)?;
     Ok(mem::replace(first, Vec::new(alloc)))
 }
 

@@ -20,13 +20,13 @@
 //! ```
 #![tactic(auto)]
 
+mod cutting;
 mod laws;
-mod parts;
 mod rows;
 
+pub use cutting::{cut_near, cut_parts, has_no_mark, is_cut};
 pub use laws::{
     cuts_go_on, each_cut_splits, each_split_splits, each_text_has_few_rows,
     lines_without_quotes_are_cuts,
 };
-pub use parts::{cut_near, cut_parts, has_no_mark, is_cut};
 pub use rows::{next_row, start_rows};

@@ -19,7 +19,7 @@ ghost use Rattle.reg_front.specs.Runs.{command_fault, IsTextFor, IsCommandFault}
 
 use crate::command::Command;
 use crate::fault::FrontFault;
-use reg_base::{AccountNo, Batch, NoMemory, Rules};
+use reg_base::{AccountNo, Batch, FEW_ROWS, NoMemory, Rules};
 use reg_book::{ClosedParts, Parts, log_is_made_again, settle_in_place};
 use reg_plan::Plan;
 use reg_regions::{FreePlaces, are_allowed, settle_without_shifts};
@@ -29,9 +29,6 @@ use reg_text::{
 };
 use std::alloc::Global;
 use std::thread::Threads;
-
-// So many instructions or more are what one of several threads looks up: to start one for fewer would take longer.
-const FEW: u32 = 1_024;
 
 /// The text of a command, and the closed day from which it was made, if the command closed the day. Whoever has it
 /// frees it, or leaves that to the end of the program.
@@ -168,7 +165,7 @@ fn make_plan<T: Threads + Sync>(
         (λ fault. fault ≡ front.NoMemory) }
 {
     let directory = day.parts.directory();
-    let plan = Plan::of_with(rt, alloc, &day.batch, directory, threads, FEW)?;
+    let plan = Plan::of_with(rt, alloc, &day.batch, directory, threads, FEW_ROWS)?;
     let text = plan_text(alloc, &plan)?;
     Ok(used_for(alloc, text, None))
 }

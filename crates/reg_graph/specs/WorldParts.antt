@@ -13,7 +13,7 @@ use Rattle.reg_tasks.specs.declared.parcel.Parcel.{Parcel}
 use Rattle.reg_tasks.specs.declared.task.Task.{Task}
 use Rattle.reg_graph.specs.declared.hand.Hand.{Hand}
 use Rattle.reg_graph.specs.declared.hand.Hand.TheVariants as parts
-use Rattle.reg_graph.specs.declared.parts.Parts.{Parts}
+use Rattle.reg_graph.specs.declared.world_parts.Parts.{Parts}
 use Rattle.reg_schedules.specs.declared.event.Event.{Event}
 use Rattle.reg_schedules.specs.declared.event.Event.TheVariants.{Pop, Steal, Run, Deliver, Push}
 use Rattle.reg_schedules.specs.declared.event.EventFault.{EventFault}

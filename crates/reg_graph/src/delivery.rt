@@ -15,7 +15,7 @@ ghost use Rattle.reg_graph.specs.WorldParts.{docks_of, DocksHaveRoom, world_of, 
 ghost use Rattle.reg_graph.specs.WorldParts.{FirstHasRoom, NextIsSent, NextHasRoom};
 
 use crate::hand::Hand;
-use crate::parts::Parts;
+use crate::world_parts::Parts;
 use reg_schedules::EventFault;
 use reg_tasks::{Context, Naming, Parcel, Task};
 use std::alloc::Global;

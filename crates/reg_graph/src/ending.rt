@@ -8,8 +8,8 @@ ghost use Rattle.reg_schedules.specs.World.{known_of, is_over};
 ghost use Rattle.reg_schedules.specs.Schedules.{IsWorldSettled};
 ghost use Rattle.reg_graph.specs.WorldParts.{world_of};
 
-use crate::parts::Parts;
 use crate::world::World;
+use crate::world_parts::Parts;
 use reg_book::Settled;
 use reg_rules::LogRow;
 use reg_schedules::laws::every_schedule;

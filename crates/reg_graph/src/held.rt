@@ -12,7 +12,7 @@ ghost use Rattle.reg_graph.specs.WorldParts.{world_of, IsWhy, HeldIsOfBatch};
 ghost use Rattle.reg_schedules.specs.declared.event.EventFault.TheVariants.{NoMemory};
 
 use crate::hand::Hand;
-use crate::parts::Parts;
+use crate::world_parts::Parts;
 use reg_account::Account;
 use reg_schedules::EventFault;
 use reg_tasks::{Context, Naming, Parcel, Task};

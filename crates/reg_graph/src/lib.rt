@@ -36,14 +36,15 @@ mod ending;
 mod hand;
 mod held;
 mod moves;
-mod parts;
 mod places;
 mod start;
 mod steps;
 mod world;
+mod world_parts;
 
 pub use reg_schedules::{Event, EventFault, MOST_WORKERS, Whereabouts, laws};
 pub use reg_tasks::{
-    Context, Done, Lack, Naming, Outcome, Parcel, Ran, RunFault, Slots, Task, Unnamed, run_order,
+    Context, Done, Lack, Naming, Parcel, Ran, RunFault, Slots, Task, TaskOutcome, Unnamed,
+    run_order,
 };
 pub use world::{World, most_workers_are_eight};

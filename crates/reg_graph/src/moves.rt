@@ -5,7 +5,7 @@ ghost use Rattle.reg_schedules.specs.World.{with_hand, pushed_by};
 ghost use Rattle.reg_graph.specs.WorldParts.{world_of, after_taking, after_stealing, ListHasRoom};
 
 use crate::hand::Hand;
-use crate::parts::Parts;
+use crate::world_parts::Parts;
 use reg_schedules::EventFault;
 use reg_tasks::Naming;
 

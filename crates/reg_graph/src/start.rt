@@ -8,7 +8,7 @@ ghost use Rattle.reg_graph.specs.WorldParts.{hand_of};
 
 use crate::docks::open_dock;
 use crate::hand::Hand;
-use crate::parts::Parts;
+use crate::world_parts::Parts;
 use reg_base::NoMemory;
 use reg_rules::LogRow;
 use reg_tasks::{Context, Naming, Task};

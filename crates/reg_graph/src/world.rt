@@ -7,7 +7,7 @@ ghost use Rattle.reg_schedules.specs.Schedules.{IsReached};
 ghost use Rattle.reg_graph.specs.WorldParts.{world_of, DocksHaveRoom};
 ghost use Rattle.reg_schedules.specs.declared.event.TheConstants.{MOST_WORKERS};
 
-use crate::parts::Parts;
+use crate::world_parts::Parts;
 use reg_base::NoMemory;
 use reg_schedules::MOST_WORKERS;
 use reg_tasks::{Context, Naming};

@@ -11,7 +11,7 @@ use Rattle.reg_book.specs.Day.{DayValue}
 use Rattle.reg_schedules.specs.Pool.{directory}
 use Rattle.reg_tasks.specs.declared.naming.Naming.{Ghosts}
 use Rattle.reg_tasks.specs.declared.task.Task.{Task}
-use Rattle.reg_tasks.specs.declared.outcome.Outcome.{Outcome}
+use Rattle.reg_tasks.specs.declared.outcome.TaskOutcome.{TaskOutcome}
 use Rattle.reg_tasks.specs.Slots.{last_of}
 
 -- whether the instruction at one of these places touches the account
@@ -62,5 +62,5 @@ module _ {N : Type 0} {b : Ghosts N} where
   places_of tasks = map (λ t. t.place) tasks
 
   -- the places of outcomes
-  abbrev pub places_run : List (Outcome N b) → List ℕ
+  abbrev pub places_run : List (TaskOutcome N b) → List ℕ
   places_run outcomes = map (λ o. o.place) outcomes

@@ -14,7 +14,7 @@ use reg_book::Settled;
 use reg_plan::laws::{
     levels_rise_along_arrows, no_fault_is_a_legal_order, tails_are_last_touchers,
 };
-use reg_tasks::{Context, Done, Lack, Naming, Outcome, Slots, Task};
+use reg_tasks::{Context, Done, Lack, Naming, Slots, Task, TaskOutcome};
 use std::alloc::Global;
 
 /// The instructions of a day, level by level. The tasks of a level are taken together, or some at a time. When they
@@ -119,7 +119,7 @@ impl<'c, 'a, N: Naming> Levels<'c, 'a, N> {
     }
 
     // Lays the outcome of the first task that runs.
-    fn lay_one(&mut self, outcome: Outcome<N>) -> Result<(), Lack>
+    fn lay_one(&mut self, outcome: TaskOutcome<N>) -> Result<(), Lack>
         requires running { self.old.laid < self.old.taken }
         requires place { outcome.place ≡ slice_index self.old.order.items self.old.laid }
         ensures context { self.new.slots.context.now ≡ self.old.slots.context.now }
@@ -144,7 +144,7 @@ impl<'c, 'a, N: Naming> Levels<'c, 'a, N> {
     ///
     /// # Errors
     /// `Foreign` if a value of another context comes. If a day is named, this does not occur.
-    pub fn lay(&mut self, outcomes: Vec<Outcome<N>>) -> Result<(), Lack>
+    pub fn lay(&mut self, outcomes: Vec<TaskOutcome<N>>) -> Result<(), Lack>
         requires outcomes { places_run outcomes.items
             ≡ places_between self.old.order.items self.old.laid self.old.taken }
         ensures { LaysLevel self.old self.new result }

@@ -50,7 +50,7 @@ pub(crate) fn join_lists(
     for list in lists {
         let region = number_or_zero(joins, index);
         if region < short(joined.len()) {
-            put_behind(&mut joined, list)?;
+            join_last(&mut joined, list)?;
         } else {
             joined.push(reserved(list, number_or_zero(&sizes, region))?)?;
         }
@@ -105,7 +105,7 @@ fn reserved(list: Vec<Account>, count: u32) -> Result<Vec<Account>, NoMemory>
 }
 
 // Puts accounts behind those of the last list.
-fn put_behind(joined: &mut Vec<Vec<Account>>, list: Vec<Account>) -> Result<(), NoMemory>
+fn join_last(joined: &mut Vec<Vec<Account>>, list: Vec<Account>) -> Result<(), NoMemory>
     ensures { OnOk result (joined_lists joined.new.items ≡ joined_lists joined.old.items ++ list.items) }
 {
     let mut list = list;

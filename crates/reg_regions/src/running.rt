@@ -22,9 +22,9 @@ use crate::running::settling::Settling;
 use crate::running::shift::Notes;
 use reg_account::Account;
 use reg_advice::Deal;
-use reg_base::{Batch, NoMemory};
+use reg_base::{Batch, FEW_ROWS, NoMemory};
 use reg_rules::{Reply, Setting, step_laws};
-use reg_run::{Outcome as Settled, Ran, run};
+use reg_run::{Outcome, Ran, run};
 use std::alloc::Global;
 use std::marker::{Brand, PhantomData};
 use std::thread::Threads;
@@ -36,12 +36,9 @@ mod settling;
 pub(crate) mod shift;
 pub(crate) mod whole;
 
-// Fewer instructions than these take less time than to start threads.
-const FEW: u32 = 1_024;
-
 /// What workers made of lists of accounts.
 #[derive(Drop)]
-pub(crate) struct Outcome<N> {
+pub(crate) struct SettledLists<N> {
     /// The lists, in their order.
     pub(crate) lists: Vec<Vec<Account>>,
     /// The replies, in the order of the batch.
@@ -66,7 +63,7 @@ pub(crate) fn settle_lists<N: Notes + Send, R: Threads + Sync, G: PlaceGate + Sy
     lists: Vec<Vec<Account>>,
     workers: u32,
     gate: &G,
-) -> Result<Outcome<N>, NoMemory>
+) -> Result<SettledLists<N>, NoMemory>
     requires workers { (1 ≤ workers) × (workers ≤ 8) }
     requires rules { AreRules setting.now.rules }
     requires ready { IsReady (batch.now.base + 1) (joined_lists lists.items) }
@@ -95,7 +92,7 @@ fn count_of(lists: &[Vec<Account>]) -> Option<u32>
 // Whether the instructions are so few that one worker has carried them out before another has begun, and nobody waits
 // for a worker.
 fn is_small<G: PlaceGate>(batch: &Batch, gate: &G) -> bool {
-    gate.is_open() && batch.len() < FEW
+    gate.is_open() && batch.len() < FEW_ROWS
 }
 
 // How many workers there is something to do for: one, or all.
@@ -160,7 +157,7 @@ fn settle_by_workers<
     lists: Vec<Vec<Account>>,
     workers: u32,
     gate: &G,
-) -> Result<Outcome<N>, NoMemory>
+) -> Result<SettledLists<N>, NoMemory>
     requires workers { (1 ≤ workers) × (workers ≤ 8) }
     requires openings { C.openings ≡ region_openings lists.items }
     requires deals { C.deals ≡ deals.items }
@@ -187,11 +184,11 @@ fn settle_by_workers<
         of: PhantomData,
     };
     let ended = run(rt, alloc, &settling, regions, busy)?;
-    let Settled { answers, notes } = ended;
+    let Outcome { answers, notes } = ended;
     let notes = with_idle(alloc, busy, workers, notes)?;
     let (lists, told) = take_apart(alloc, answers)?;
     let replies = in_places(alloc, batch.len(), told)?;
-    Ok(Outcome {
+    Ok(SettledLists {
         lists,
         replies,
         notes,

@@ -23,7 +23,7 @@ use crate::lists::{cut_lists, join_lists};
 use crate::not_settled::{NotSettled, RegionsFault};
 use crate::running::shift::{NoShift, Notes, WorkShift};
 use crate::running::whole::settle_whole;
-use crate::running::{Outcome, settle_lists};
+use crate::running::{SettledLists, settle_lists};
 use reg_account::Account;
 use reg_advice::{Dealing, advise};
 use reg_base::{Batch, NoMemory, Rules};
@@ -158,7 +158,7 @@ fn settle_book<N: Notes + Send, R: Threads + Sync, G: PlaceGate + Sync>(
         directory: &directory,
     };
     let settled = settle_by_advice(rt, alloc, &setting, batch, lists, workers, gate)?;
-    let Outcome {
+    let SettledLists {
         lists: left,
         replies,
         notes,
@@ -185,7 +185,7 @@ fn settle_by_advice<N: Notes + Send, R: Threads + Sync, G: PlaceGate + Sync>(
     lists: Vec<Vec<Account>>,
     workers: u32,
     gate: &G,
-) -> Result<Outcome<N>, NoMemory>
+) -> Result<SettledLists<N>, NoMemory>
     requires workers { (1 ≤ workers) × (workers ≤ 8) }
     requires rules { AreRules setting.now.rules }
     requires ready { IsReady (batch.now.base + 1) (joined_lists lists.items) }

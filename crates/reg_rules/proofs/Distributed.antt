@@ -14,7 +14,7 @@ use Rattle.reg_base.specs.declared.refusals.Refusal.TheVariants.{SameAccount, No
 use Rattle.reg_base.specs.declared.instruction.Instruction.{Instruction}
 use Rattle.reg_base.specs.Acts.{total_of, movement_of, shares, parties, also_known}
 use Rattle.reg_base.specs.Footprint.{is_among}
-use Rattle.reg_account.specs.declared.parts.Holdings.{Holdings}
+use Rattle.reg_account.specs.declared.account_parts.Holdings.{Holdings}
 use Rattle.reg_account.specs.Trusted.{effective_in}
 use Rattle.reg_account.specs.Years.{emissions_in, figure_in}
 use Rattle.reg_account.specs.Account.{AccountValue, held_by, credited, debited}

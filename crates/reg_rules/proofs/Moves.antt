@@ -12,7 +12,7 @@ use Rattle.reg_base.specs.declared.refusals.Refusal.TheVariants.{SameAccount, Wr
 use Rattle.reg_base.specs.declared.act.Act.{Act}
 use Rattle.reg_base.specs.declared.instruction.Instruction.{Instruction}
 use Rattle.reg_base.specs.Acts.{passing, movement_of, parties, also_known}
-use Rattle.reg_account.specs.declared.parts.Holdings.{Holdings}
+use Rattle.reg_account.specs.declared.account_parts.Holdings.{Holdings}
 use Rattle.reg_account.specs.Trusted.{effective_in}
 use Rattle.reg_account.specs.Years.{emissions_in, figure_in}
 use Rattle.reg_account.specs.Account.{AccountValue, amount_of, with_amount, held_by, credited, debited}

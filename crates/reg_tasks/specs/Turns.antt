@@ -4,7 +4,7 @@ use Rattle.reg_rules.specs.declared.reply.LogRow.{LogRow}
 use Rattle.reg_tasks.specs.declared.naming.Naming.{Ghosts}
 use Rattle.reg_tasks.specs.declared.done.Done.{Done}
 use Rattle.reg_tasks.specs.declared.lack.Lack.{Lack}
-use Rattle.reg_tasks.specs.declared.outcome.Outcome.{Outcome}
+use Rattle.reg_tasks.specs.declared.outcome.TaskOutcome.{TaskOutcome}
 use Rattle.reg_tasks.specs.declared.outcome.Ran.{Ran}
 use Rattle.reg_tasks.specs.declared.slots.Slots.{Slots}
 use Rattle.reg_tasks.specs.declared.task.Task.{Task}
@@ -33,7 +33,7 @@ module _ {N : Type 0} {b : Ghosts N} where
   TakesTask place old new result = MatchResult result (IsTaskTaken place old new) (TakesNothing place old new)
 
   -- what an instruction left lies in the slots of its accounts, and these are its run and its row in the log
-  pub record IsLaidForRow (outcome : Outcome N b) (old new : Slots N b) (kept : Ran N × LogRow) : Type 0 where
+  pub record IsLaidForRow (outcome : TaskOutcome N b) (old new : Slots N b) (kept : Ran N × LogRow) : Type 0 where
     pub context : new.context.now ≡ old.context.now
     pub ran : kept.0.place ≡ outcome.place
     pub row : kept.1 ≡ outcome.row
@@ -41,7 +41,7 @@ module _ {N : Type 0} {b : Ghosts N} where
     pub laid : AreLaid (names_of outcome.parcels.items) (stands old) (stands new)
 
   -- what an instruction left lies in the slots of its accounts, and these are its run and what is kept of itself
-  pub record IsLaidForReply (outcome : Outcome N b) (old new : Slots N b) (kept : Ran N × Done N b) : Type 0 where
+  pub record IsLaidForReply (outcome : TaskOutcome N b) (old new : Slots N b) (kept : Ran N × Done N b) : Type 0 where
     pub context : new.context.now ≡ old.context.now
     pub ran : kept.0.place ≡ outcome.place
     pub place : kept.1.place ≡ outcome.place
@@ -49,7 +49,7 @@ module _ {N : Type 0} {b : Ghosts N} where
     pub laid : AreLaid (names_of outcome.parcels.items) (stands old) (stands new)
 
   -- nothing is laid, and the outcome comes back: one of its accounts has no slot, which occurs only if no day is named
-  pub record LaysNothing (outcome : Outcome N b) (old new : Slots N b) (given : Outcome N b) : Type 0 where
+  pub record LaysNothing (outcome : TaskOutcome N b) (old new : Slots N b) (given : TaskOutcome N b) : Type 0 where
     pub context : new.context.now ≡ old.context.now
     pub there : have_slots (the_day old.context.now) (names_of outcome.parcels.items) ≡ false
     pub named : b.day ≡ None
@@ -57,11 +57,12 @@ module _ {N : Type 0} {b : Ghosts N} where
     pub unchanged : new ≡ old
 
   -- what an instruction left is laid into the slots, with a fault or without, and its row is answered
-  abbrev pub LaysForRow : Outcome N b → Slots N b → Slots N b → Result (Ran N × LogRow) (Outcome N b) → Type 0
+  abbrev pub LaysForRow : TaskOutcome N b → Slots N b → Slots N b → Result (Ran N × LogRow) (TaskOutcome N b) → Type 0
   LaysForRow outcome old new result =
       MatchResult result (IsLaidForRow outcome old new) (LaysNothing outcome old new)
 
   -- the same, and what is kept of the instruction is answered
-  abbrev pub LaysForReply : Outcome N b → Slots N b → Slots N b → Result (Ran N × Done N b) (Outcome N b) → Type 0
+  abbrev pub LaysForReply : TaskOutcome N b → Slots N b → Slots N b → Result (Ran N × Done N b) (TaskOutcome N b)
+      → Type 0
   LaysForReply outcome old new result =
       MatchResult result (IsLaidForReply outcome old new) (LaysNothing outcome old new)

@@ -9,8 +9,8 @@ use std::marker::PhantomData;
 
 /// An instruction that was run: its place, and the reply to it. The rest of its row in the log is in the batch. If a
 /// day is named, it is the day's reply at that place. Callers get one only by
-/// [`Outcome::into_done`](crate::Outcome::into_done) and [`Slots::lay`](crate::Slots::lay), each for the outcome that
-/// it takes. In this crate [`run_order`](crate::run_order) makes one of each row of its own, and
+/// [`TaskOutcome::into_done`](crate::TaskOutcome::into_done) and [`Slots::lay`](crate::Slots::lay), each for the
+/// outcome that it takes. In this crate [`run_order`](crate::run_order) makes one of each row of its own, and
 /// [`Context::gather`](crate::Context::gather) one of each row that it gets, which must be the day's.
 #[derive(Drop)]
 pub struct Done<N: Naming> {

@@ -13,7 +13,7 @@
 //! ghost use Rattle.reg_tasks.specs.Parcels.{names_of};
 //! ghost use Rattle.reg_tasks.specs.Places.{IsPlaceOf};
 //!
-//! use reg_tasks::{Context, Naming, Outcome, Parcel, Task};
+//! use reg_tasks::{Context, Naming, Parcel, Task, TaskOutcome};
 //! use std::alloc::Global;
 //!
 //! /// Runs the instruction at a place, counted from 1, on these values of accounts, if they are those that it needs.
@@ -23,7 +23,7 @@
 //!     context: &Context<N>,
 //!     place: u32,
 //!     parcels: Vec<Parcel<N>>,
-//! ) -> Option<Outcome<N>>
+//! ) -> Option<TaskOutcome<N>>
 //!     requires place { IsPlaceOf context.now.batch.now place }
 //!     ensures needed { IfSome result
 //!         (λ _. has_names (names_of parcels.items)
@@ -66,7 +66,7 @@ pub use lack::Lack;
 pub use last_parcel::LastParcel;
 pub use naming::{Naming, Unnamed};
 pub use order::{RunFault, run_order};
-pub use outcome::{Outcome, Ran};
+pub use outcome::{Ran, TaskOutcome};
 pub use parcel::Parcel;
 pub use slots::Slots;
 pub use task::Task;

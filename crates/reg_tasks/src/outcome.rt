@@ -13,7 +13,7 @@ use std::marker::PhantomData;
 /// What the run of a task gives: the row of its instruction, and the parcels of its footprint as the instruction left
 /// them. Only [`Task::run`](crate::Task::run) makes one.
 #[derive(Drop)]
-pub struct Outcome<N: Naming> {
+pub struct TaskOutcome<N: Naming> {
     place: u32,
     row: LogRow,
     parcels: Vec<Parcel<N>>,
@@ -38,15 +38,15 @@ impl<N: Naming> Ran<N> {
     }
 }
 
-impl<N: Naming> Outcome<N> {
-    pub(crate) fn new(place: u32, row: LogRow, parcels: Vec<Parcel<N>>) -> Outcome<N>
+impl<N: Naming> TaskOutcome<N> {
+    pub(crate) fn new(place: u32, row: LogRow, parcels: Vec<Parcel<N>>) -> TaskOutcome<N>
         requires row { IsRowOfDay N.day place row }
         requires left { AreLeft N.day place (names_of parcels.items) }
         ensures place { result.place ≡ place }
         ensures row { result.row ≡ row }
         ensures parcels { result.parcels ≡ parcels }
     {
-        Outcome {
+        TaskOutcome {
             place,
             row,
             parcels,
@@ -80,7 +80,7 @@ impl<N: Naming> Outcome<N> {
         ensures row { (result.1 ≡ self.row) × IsRowOfDay N.day self.place result.1 }
         ensures parcels { (result.2.items ≡ self.parcels.items) × AreLeft N.day self.place (names_of result.2.items) }
     {
-        let Outcome {
+        let TaskOutcome {
             place,
             row,
             parcels,

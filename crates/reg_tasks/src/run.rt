@@ -48,7 +48,7 @@ pub(crate) fn number_of<N: Naming>(context: &Context<N>, place: u32) -> RecordNo
 
 // Carries out the instruction at a place on the values of the accounts that it touches, which have no surrender or
 // deletion of this place or a later one, and answers its row.
-pub(crate) fn carry_out<N: Naming>(
+pub(crate) fn apply_at<N: Naming>(
     alloc: Global,
     context: &Context<N>,
     place: u32,

@@ -7,7 +7,7 @@ use crate::done::Done;
 use crate::gather::settle_log;
 use crate::lack::Lack;
 use crate::naming::Naming;
-use crate::outcome::{Outcome, Ran};
+use crate::outcome::{Ran, TaskOutcome};
 use crate::parcel::Parcel;
 use crate::slot::{are_ready, empty_slots, have_slots, lay_parcels, open_slots, take_parcels};
 use crate::task::Task;
@@ -95,7 +95,10 @@ impl<'c, 'a, N: Naming> Slots<'c, 'a, N> {
     /// # Errors
     /// The outcome as it was, if one of its accounts has no slot. Nothing is laid then. If a day is named, this does
     /// not occur.
-    pub fn lay_for_row(&mut self, outcome: Outcome<N>) -> Result<(Ran<N>, LogRow), Outcome<N>>
+    pub fn lay_for_row(
+        &mut self,
+        outcome: TaskOutcome<N>,
+    ) -> Result<(Ran<N>, LogRow), TaskOutcome<N>>
         ensures { LaysForRow outcome self.old self.new result }
     {
         last_toucher_is_last();
@@ -115,7 +118,7 @@ impl<'c, 'a, N: Naming> Slots<'c, 'a, N> {
     /// # Errors
     /// The outcome as it was, if one of its accounts has no slot. Nothing is laid then. If a day is named, this does
     /// not occur.
-    pub fn lay(&mut self, outcome: Outcome<N>) -> Result<(Ran<N>, Done<N>), Outcome<N>>
+    pub fn lay(&mut self, outcome: TaskOutcome<N>) -> Result<(Ran<N>, Done<N>), TaskOutcome<N>>
         ensures { LaysForReply outcome self.old self.new result }
     {
         let (ran, row) = self.lay_for_row(outcome)?;

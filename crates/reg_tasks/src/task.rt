@@ -8,9 +8,9 @@ use crate::context::Context;
 use crate::naming::Naming;
 use crate::needs::{are_needed, are_of, put_in_order};
 use crate::opened::open_all;
-use crate::outcome::Outcome;
+use crate::outcome::TaskOutcome;
 use crate::parcel::Parcel;
-use crate::run::{are_behind, carry_out, number_of, pack, pack_after, unpack};
+use crate::run::{apply_at, are_behind, number_of, pack, pack_after, unpack};
 use reg_base::NoMemory;
 use reg_base::laws::{each_footprint_is_sound, last_toucher_is_last};
 use reg_book::{each_is_a_step, stays_ready, value_is_last_touchers};
@@ -173,7 +173,7 @@ impl<N: Naming> Task<N> {
     /// The task as it was, if memory ran out. If no day is named, also if the task is of another context and does not
     /// fit this one: its place is none of the batch, its accounts are not those that the instruction there touches, or
     /// one of them has a surrender or deletion with the record number of the instruction or a higher one.
-    pub fn run(self, alloc: Global, context: &Context<N>) -> Result<Outcome<N>, Task<N>>
+    pub fn run(self, alloc: Global, context: &Context<N>) -> Result<TaskOutcome<N>, Task<N>>
         ensures place { IfOk result (λ o. o.place ≡ self.place) }
         ensures made { IfOk result
             (λ o. run_at (the_day context.now) self.place (values_of self.parcels.items)
@@ -201,11 +201,11 @@ impl<N: Naming> Task<N> {
         let Task { place, parcels } = self;
         let likely = context.likely_slots(place);
         let (mut own, afters) = unpack(parcels, room);
-        let Ok(row) = carry_out(alloc, context, place, &mut own) else {
+        let Ok(row) = apply_at(alloc, context, place, &mut own) else {
             let parcels = pack(own, afters.as_slice(), likely, left);
             return Err(Task { place, parcels });
         };
         let parcels = pack_after(own, place, likely, left);
-        Ok(Outcome::new(place, row, parcels))
+        Ok(TaskOutcome::new(place, row, parcels))
     }
 }

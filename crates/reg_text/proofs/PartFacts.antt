@@ -11,7 +11,7 @@ use Rattle.reg_text.proofs.Names.{nothing_read, behind_heading, only_heading, ne
 use Rattle.reg_text.proofs.Names.{drafted, after_rows, at_end, day_of_rows}
 use Rattle.reg_text.proofs.Names.{day_said, is_text_over, rows_in_text}
 use Rattle.reg_text.specs.declared.reading.tag.Tag.TheVariants as tag
-use Rattle.reg_text.specs.declared.reading.parts.Part.{Part}
+use Rattle.reg_text.specs.declared.reading.part.Part.{Part}
 use Rattle.reg_text.specs.Joining.{IsHeading, HasHeading, IsPart, MayJoin, IsReadSoFar, joined_drafts}
 use Rattle.reg_text.specs.PartsRead.{IsReadPart, ReadsEach}
 use Rattle.reg_text.proofs.Binds.{bind_ok, ok_is}

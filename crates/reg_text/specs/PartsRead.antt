@@ -3,7 +3,7 @@ use Rattle.std.specs.Prelude.{ℕ, ◌<◌, List, [], ◌∷◌, Option, Some, N
 use Rattle.std.specs.Borrow.{Bor}
 use Rattle.reg_cuts.specs.Parts.{IsCut, HasNoMark}
 use Rattle.reg_cuts.specs.Rows.{rows_in_text}
-use Rattle.reg_text.specs.declared.reading.parts.Part.{Part}
+use Rattle.reg_text.specs.declared.reading.part.Part.{Part}
 use Rattle.reg_text.specs.Drafts.{DraftValue, behind_heading}
 use Rattle.reg_text.specs.Joining.{IsPart}
 

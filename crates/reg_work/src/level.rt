@@ -8,10 +8,10 @@ ghost use Rattle.reg_facts.specs.Lists.{joined_lists};
 ghost use Rattle.reg_work.specs.Parts.{AreEven};
 ghost use Rattle.reg_work.specs.Shortages.{IsShortage};
 
+use crate::dividing::divide;
 use crate::fault::Shortage;
-use crate::parts::divide;
 use reg_base::NoMemory;
-use reg_tasks::{Context, Gate, Naming, Outcome, Task};
+use reg_tasks::{Context, Gate, Naming, Task, TaskOutcome};
 use std::alloc::Global;
 use std::snapshot::Snapshot;
 use std::sync::Wait;
@@ -24,12 +24,12 @@ struct OutcomesOf<N: Naming> {
     tasks: Snapshot<Vec<Task<N>>>,
 }
 
-impl<N: Naming> Promise<Result<Vec<Outcome<N>>, NoMemory>> for OutcomesOf<N> {
+impl<N: Naming> Promise<Result<Vec<TaskOutcome<N>>, NoMemory>> for OutcomesOf<N> {
     ghost kept_by = { λ promise result. IfOk result
         (λ outcomes. places_run outcomes.items ≡ places_of promise.tasks.value.items) };
 }
 
-type Handle<N> = PromisedHandle<Result<Vec<Outcome<N>>, NoMemory>, OutcomesOf<N>>;
+type Handle<N> = PromisedHandle<Result<Vec<TaskOutcome<N>>, NoMemory>, OutcomesOf<N>>;
 
 // Runs tasks one after another, as one worker.
 fn run_part<N: Naming, G: Gate>(
@@ -38,7 +38,7 @@ fn run_part<N: Naming, G: Gate>(
     gate: &G,
     worker: u32,
     tasks: Vec<Task<N>>,
-) -> Result<Vec<Outcome<N>>, NoMemory>
+) -> Result<Vec<TaskOutcome<N>>, NoMemory>
     ensures { IfOk result (λ outcomes. places_run outcomes.items ≡ places_of tasks.items) }
 {
     let mut outcomes = Vec::with_capacity(alloc, tasks.len())?;
@@ -56,7 +56,7 @@ fn run_part<N: Naming, G: Gate>(
 fn join_all<N: Naming, R: Threads>(
     rt: &R,
     handles: Vec<Handle<N>>,
-    outcomes: &mut Vec<Outcome<N>>,
+    outcomes: &mut Vec<TaskOutcome<N>>,
 ) -> Result<(), NoMemory>
     ensures { OnOk result (places_run outcomes.new.items
         ≡ places_run outcomes.old.items
@@ -96,7 +96,7 @@ fn start_all<'s, E, N: Naming + Send + Sync + 's, G: Gate + 's>(
         };
         let started = scope.spawn_with(
             promise,
-            move || -> Result<Vec<Outcome<N>>, NoMemory>
+            move || -> Result<Vec<TaskOutcome<N>>, NoMemory>
                 ensures { IfOk result (λ outcomes. places_run outcomes.items ≡ places_of part.items) }
             { run_part(alloc, context, gate, number, part) },
         );
@@ -132,7 +132,7 @@ fn run_parts<N: Naming + Send + Sync, R: Threads + Wait, G: Gate>(
     workers: u32,
     parts: Vec<Vec<Task<N>>>,
     count: usize,
-) -> Result<Vec<Outcome<N>>, Shortage>
+) -> Result<Vec<TaskOutcome<N>>, Shortage>
     requires few { vec_len parts ≤ workers }
     requires even { AreEven (map vec_len parts.items) }
     ensures { IfOk result (λ outcomes. places_run outcomes.items ≡ places_of (joined_lists parts.items)) }
@@ -141,7 +141,7 @@ fn run_parts<N: Naming + Send + Sync, R: Threads + Wait, G: Gate>(
     thread::scope(
         thread::scope_env(),
         rt,
-        move |scope| -> Result<Vec<Outcome<N>>, Shortage>
+        move |scope| -> Result<Vec<TaskOutcome<N>>, Shortage>
             ensures { IfOk result (λ outcomes. places_run outcomes.items ≡ places_of (joined_lists parts.items)) }
         {
             let mut outcomes = Vec::with_capacity(alloc, count)?;
@@ -168,7 +168,7 @@ pub(crate) fn run_level<N: Naming + Send + Sync, R: Threads + Wait, G: Gate>(
     gate: &G,
     workers: u32,
     tasks: Vec<Task<N>>,
-) -> Result<Vec<Outcome<N>>, Shortage>
+) -> Result<Vec<TaskOutcome<N>>, Shortage>
     requires { 1 ≤ workers }
     ensures outcomes { IfOk result (λ outcomes. places_run outcomes.items ≡ places_of tasks.items) }
     ensures lack { IfErr result (IsShortage workers) }

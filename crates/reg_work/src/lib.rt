@@ -40,10 +40,10 @@
 #![tactic(auto)]
 
 mod alone;
+mod dividing;
 mod execution;
 mod fault;
 mod level;
-mod parts;
 mod shared;
 mod shift;
 mod stealing;

@@ -10,7 +10,7 @@ use crate::settling::{context_of, settled_plainly};
 use crate::stop::Stop;
 use reg_base::{AccountNo, Batch, Directory, Instruction, NoMemory};
 use reg_rules::LogRow;
-use reg_tasks::{Context, Outcome, Parcel, Task, Unnamed};
+use reg_tasks::{Context, Parcel, Task, TaskOutcome, Unnamed};
 use reg_text::DayInput;
 use std::alloc::Global;
 use std::io::Write;
@@ -155,7 +155,7 @@ struct Left {
 
 impl Left {
     // Adds what an outcome has.
-    fn add(&mut self, outcome: Outcome<Unnamed>) -> Result<(), Stop> {
+    fn add(&mut self, outcome: TaskOutcome<Unnamed>) -> Result<(), Stop> {
         let (_, row, mut parcels) = outcome.into_parts();
         self.rows.push(row)?;
         self.parcels.append(&mut parcels)?;
@@ -167,7 +167,7 @@ fn run(
     alloc: Global,
     context: &Context<Unnamed>,
     task: Task<Unnamed>,
-) -> Result<Outcome<Unnamed>, Stop> {
+) -> Result<TaskOutcome<Unnamed>, Stop> {
     match task.run(alloc, context) {
         Ok(outcome) => Ok(outcome),
         Err(_) => Err(Stop::Short),
@@ -195,7 +195,7 @@ struct Running<'c> {
 }
 
 // The digest of the row and the parcels that an instruction has left.
-fn digest_after(outcome: Outcome<Unnamed>) -> Digest {
+fn digest_after(outcome: TaskOutcome<Unnamed>) -> Digest {
     let (_, row, parcels) = outcome.into_parts();
     let mut digest = digest_of(&row);
     for parcel in &parcels {

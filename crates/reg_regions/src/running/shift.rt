@@ -16,7 +16,7 @@ use reg_book::Indexes;
 use reg_rules::{Reply, Setting, execute_at, step_laws};
 use std::alloc::Global;
 
-/// The place of an instruction that was carried out. Only `carry_out` makes one.
+/// The place of an instruction that was carried out. Only `settle_noted` makes one.
 #[derive(Drop)]
 pub(crate) struct Carried {
     place: u32,
@@ -62,7 +62,7 @@ pub struct OwnedRegion {
     pub stolen: bool,
 }
 
-/// What a worker carried out. A place comes into it by `note` alone, which takes what only `carry_out` makes: so a
+/// What a worker carried out. A place comes into it by `note` alone, which takes what only `settle_noted` makes: so a
 /// shift can't be made of numbers, none can be made of two, and its places stand in the order in which the worker
 /// carried them out.
 #[derive(Debug, Drop)]
@@ -188,7 +188,7 @@ pub(crate) fn settle_gated<N: Notes, G: PlaceGate>(
     let mut replies = Vec::with_capacity(alloc, places.len())?;
     for (index, place) in places.iter().enumerate() {
         gate.enter(notes.number(), *place);
-        let reply = carry_out(
+        let reply = settle_noted(
             alloc,
             setting,
             batch,
@@ -213,7 +213,7 @@ fn push_reply(replies: &mut Vec<Placed>, place: u32, reply: Reply) -> Result<(),
 }
 
 // Carries out the instruction at a place, and notes it. Its accounts are at these indexes.
-fn carry_out<N: Notes>(
+fn settle_noted<N: Notes>(
     alloc: Global,
     setting: &Setting,
     batch: &Batch,

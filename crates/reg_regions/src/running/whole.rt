@@ -17,7 +17,7 @@ ghost use Rattle.reg_regions.specs.Working.{WereSettledBy};
 use crate::gate::PlaceGate;
 use crate::lists::join_all;
 use crate::running::shift::Notes;
-use crate::running::{Outcome, settle_lists};
+use crate::running::{SettledLists, settle_lists};
 use reg_account::Account;
 use reg_advice::Deal;
 use reg_base::{Batch, NoMemory};
@@ -38,7 +38,7 @@ pub(crate) fn settle_whole<N: Notes + Send, R: Threads + Sync, G: PlaceGate + Sy
     lists: Vec<Vec<Account>>,
     workers: u32,
     gate: &G,
-) -> Result<Outcome<N>, NoMemory>
+) -> Result<SettledLists<N>, NoMemory>
     requires workers { (1 ≤ workers) × (workers ≤ 8) }
     requires rules { AreRules setting.now.rules }
     requires ready { IsReady (batch.now.base + 1) (joined_lists lists.items) }

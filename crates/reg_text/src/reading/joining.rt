@@ -12,7 +12,7 @@ ghost use Rattle.reg_text.specs.PartsRead.{ReadsEach};
 
 use crate::reading::account_row::AccountHead;
 use crate::reading::draft::{Body, Draft, Heading};
-use crate::reading::parts::Part;
+use crate::reading::part::Part;
 use crate::reading::tag::{Tag, may_follow};
 use crate::reading::take::{end_block, has_number};
 use reg_base::{AccountNo, Instruction, MOST_ACCOUNTS, MOST_INSTRUCTIONS};

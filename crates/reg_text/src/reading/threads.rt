@@ -14,7 +14,7 @@ ghost use Rattle.reg_text.specs.PartsRead.{ReadsAt};
 
 use crate::reading::draft::Draft;
 use crate::reading::joining::join_all;
-use crate::reading::parts::{Part, read_heading, read_part};
+use crate::reading::part::{Part, read_heading, read_part};
 use crate::reading::tag::Tag;
 use std::alloc::{AllocError, Global};
 use std::thread;

@@ -12,8 +12,8 @@ use Rattle.reg_regions.proofs.CarryingOut.{run-more}
 use Rattle.reg_regions.proofs.Tallied.{noted-more}
 use Rattle.reg_regions.proofs.running.shift.settle_gated.Goals as goal
 
-pub carry_out-requires-clause-ready : goal.carry_out-requires-clause-ready
-carry_out-requires-clause-ready g c = c.loop-index.invariant.ready c.loop-index.index (omega arith) (omega arith)
+pub settle_noted-requires-clause-ready : goal.settle_noted-requires-clause-ready
+settle_noted-requires-clause-ready g c = c.loop-index.invariant.ready c.loop-index.index (omega arith) (omega arith)
 
 pub loop-index-preserved : goal.loop-index-preserved
 loop-index-preserved g c =
@@ -32,14 +32,14 @@ loop-index-preserved g c =
     (rise-before 0 places k c.requires.home.rising within) in
     record {
       run = run-more c.step_laws.ensures setting batch c.args.accounts.now c.loop-index.accounts
-          c.carry_out.new.accounts c.loop-index.replies.items c.push_reply.new.replies.items (place - 1) place
+          c.settle_noted.new.accounts c.loop-index.replies.items c.push_reply.new.replies.items (place - 1) place
           c.in_ok-reply.reply before.same_numbers (omega (arith, one))
           (subst (All (λ p. p ≤ place - 1)) (sym before.placed) lower) before.run made grown;
       placed = ap places_in grown
           ∙ map-append (λ (p : Placed). p.place) c.loop-index.replies.items _
           ∙ ap (λ ps. ps ++ place ∷ []) before.placed
           ∙ sym (take_more places k 0 within);
-      ready = ready-next batch.base places k c.carry_out.new.accounts c.requires.home.rising within made.ready;
+      ready = ready-next batch.base places k c.settle_noted.new.accounts c.requires.home.rising within made.ready;
       same_numbers = ap numbers made.accounts
           ∙ numbers-one c.step_laws.ensures setting batch c.loop-index.accounts place ∙ before.same_numbers;
       worker = c.in_ok-reply.ensures.worker ∙ before.worker;

@@ -16,9 +16,9 @@ use Rattle.reg_tasks.proofs.task.Task.run.Goals as goal
 pub pack-parcels-requires-clause-right : goal.pack-parcels-requires-clause-right
 pack-parcels-requires-clause-right g c =
     let size : c.unpack-own.result.0.len ≡ length c.unpack-own.result.0.items = search rules in
-    let back : c.carry_out.new.own ≡ c.unpack-own.result.0.items =
-    c.in_default-carry_out.ensures.err ∙ c.deref_mut.ensures.value in
-    let values = written_whole c.unpack-own.result.0.items c.carry_out.new.own c.unpack-own.result.0.len size
+    let back : c.apply_at.new.own ≡ c.unpack-own.result.0.items =
+    c.in_default-apply_at.ensures.err ∙ c.deref_mut.ensures.value in
+    let values = written_whole c.unpack-own.result.0.items c.apply_at.new.own c.unpack-own.result.0.len size
     (ap length back) ∙ back ∙ c.unpack-own.ensures.own in
     subst (λ vs. AreValues g.N.Naming.day vs c.as_slice.result.now) (sym values)
     (subst (λ ts. AreValues g.N.Naming.day (values_of c.args.self.parcels.items) ts)
@@ -27,56 +27,56 @@ pack-parcels-requires-clause-right g c =
 pub pack_after-parcels-requires-clause-right : goal.pack_after-parcels-requires-clause-right
 pack_after-parcels-requires-clause-right g c =
     let right : (d : DayValue) → g.N.Naming.day ≡ Some d
-    → IsRight d c.args.self.place (values_of c.args.self.parcels.items) c.carry_out.new.own c.in-Ok-carry_out.row =
+    → IsRight d c.args.self.place (values_of c.args.self.parcels.items) c.apply_at.new.own c.in-Ok-apply_at.row =
     ran_named c.step_laws.ensures c.each_is_a_step.ensures c.value_is_last_touchers.ensures
     (day_of c.args.context.now.book.now c.args.context.now.rules.now c.args.context.now.batch.now) c.args.self.place
-    c.args.self.parcels.items c.carry_out.new.own c.in-Ok-carry_out.row c.args.context.now.named c.args.self.complete
+    c.args.self.parcels.items c.apply_at.new.own c.in-Ok-apply_at.row c.args.context.now.named c.args.self.complete
     (ap (run_at (day_of c.args.context.now.book.now c.args.context.now.rules.now c.args.context.now.batch.now)
     c.args.self.place) (sym (c.deref_mut.ensures.value ∙ c.unpack-own.ensures.own))
-    ∙ c.in-Ok-carry_out.ensures.ok) in
+    ∙ c.in-Ok-apply_at.ensures.ok) in
     let touched : (d : DayValue) → g.N.Naming.day ≡ Some d → numbers (values_of c.args.self.parcels.items)
     ≡ footprint_at d c.args.self.place =
     λ d e. (c.fits.ensures.is_for c.if-not-fits.false).touched
     ∙ ap (λ (x : DayValue). footprint_at x c.args.self.place) (c.args.context.now.named d e) in
     let size : c.unpack-own.result.0.len ≡ length c.unpack-own.result.0.items = search rules in
     let whole : take c.unpack-own.result.0.len
-    (c.carry_out.new.own ++ drop (length c.carry_out.new.own) c.unpack-own.result.0.items) ≡ c.carry_out.new.own =
-    written_whole c.unpack-own.result.0.items c.carry_out.new.own c.unpack-own.result.0.len size (c.carry_out.auto.own
+    (c.apply_at.new.own ++ drop (length c.apply_at.new.own) c.unpack-own.result.0.items) ≡ c.apply_at.new.own =
+    written_whole c.unpack-own.result.0.items c.apply_at.new.own c.unpack-own.result.0.len size (c.apply_at.auto.own
     ∙ ap length c.deref_mut.ensures.value) in
     subst (AllByRecursion (λ v. IsValue g.N.Naming.day v c.args.self.place)) (sym whole)
-    (each_right g.N.Naming.day c.args.self.place (values_of c.args.self.parcels.items) c.carry_out.new.own
-    c.in-Ok-carry_out.row c.each_footprint_is_sound.ensures right touched)
+    (each_right g.N.Naming.day c.args.self.place (values_of c.args.self.parcels.items) c.apply_at.new.own
+    c.in-Ok-apply_at.row c.each_footprint_is_sound.ensures right touched)
 
 pub new-requires-clause-row : goal.new-requires-clause-row
 new-requires-clause-row g c =
     let right : (d : DayValue) → g.N.Naming.day ≡ Some d
-    → IsRight d c.args.self.place (values_of c.args.self.parcels.items) c.carry_out.new.own c.in-Ok-carry_out.row =
+    → IsRight d c.args.self.place (values_of c.args.self.parcels.items) c.apply_at.new.own c.in-Ok-apply_at.row =
     ran_named c.step_laws.ensures c.each_is_a_step.ensures c.value_is_last_touchers.ensures
     (day_of c.args.context.now.book.now c.args.context.now.rules.now c.args.context.now.batch.now) c.args.self.place
-    c.args.self.parcels.items c.carry_out.new.own c.in-Ok-carry_out.row c.args.context.now.named c.args.self.complete
+    c.args.self.parcels.items c.apply_at.new.own c.in-Ok-apply_at.row c.args.context.now.named c.args.self.complete
     (ap (run_at (day_of c.args.context.now.book.now c.args.context.now.rules.now c.args.context.now.batch.now)
     c.args.self.place) (sym (c.deref_mut.ensures.value ∙ c.unpack-own.ensures.own))
-    ∙ c.in-Ok-carry_out.ensures.ok) in
+    ∙ c.in-Ok-apply_at.ensures.ok) in
     λ d e. (right d e).row_is
 
 pub new-requires-clause-left : goal.new-requires-clause-left
 new-requires-clause-left g c =
     let right : (d : DayValue) → g.N.Naming.day ≡ Some d
-    → IsRight d c.args.self.place (values_of c.args.self.parcels.items) c.carry_out.new.own c.in-Ok-carry_out.row =
+    → IsRight d c.args.self.place (values_of c.args.self.parcels.items) c.apply_at.new.own c.in-Ok-apply_at.row =
     ran_named c.step_laws.ensures c.each_is_a_step.ensures c.value_is_last_touchers.ensures
     (day_of c.args.context.now.book.now c.args.context.now.rules.now c.args.context.now.batch.now) c.args.self.place
-    c.args.self.parcels.items c.carry_out.new.own c.in-Ok-carry_out.row c.args.context.now.named c.args.self.complete
+    c.args.self.parcels.items c.apply_at.new.own c.in-Ok-apply_at.row c.args.context.now.named c.args.self.complete
     (ap (run_at (day_of c.args.context.now.book.now c.args.context.now.rules.now c.args.context.now.batch.now)
     c.args.self.place) (sym (c.deref_mut.ensures.value ∙ c.unpack-own.ensures.own))
-    ∙ c.in-Ok-carry_out.ensures.ok) in
+    ∙ c.in-Ok-apply_at.ensures.ok) in
     let touched : (d : DayValue) → g.N.Naming.day ≡ Some d → numbers (values_of c.args.self.parcels.items)
     ≡ footprint_at d c.args.self.place =
     λ d e. (c.fits.ensures.is_for c.if-not-fits.false).touched
     ∙ ap (λ (x : DayValue). footprint_at x c.args.self.place) (c.args.context.now.named d e) in
     let size : c.unpack-own.result.0.len ≡ length c.unpack-own.result.0.items = search rules in
     let whole : take c.unpack-own.result.0.len
-    (c.carry_out.new.own ++ drop (length c.carry_out.new.own) c.unpack-own.result.0.items) ≡ c.carry_out.new.own =
-    written_whole c.unpack-own.result.0.items c.carry_out.new.own c.unpack-own.result.0.len size (c.carry_out.auto.own
+    (c.apply_at.new.own ++ drop (length c.apply_at.new.own) c.unpack-own.result.0.items) ≡ c.apply_at.new.own =
+    written_whole c.unpack-own.result.0.items c.apply_at.new.own c.unpack-own.result.0.len size (c.apply_at.auto.own
     ∙ ap length c.deref_mut.ensures.value) in
     λ d e.
     names_after c.pack_after-parcels.result.items c.args.self.place (c.pack_after-parcels.ensures.afters
@@ -87,9 +87,9 @@ new-requires-clause-left g c =
 pub invariant_of-result : goal.invariant_of-result
 invariant_of-result g c =
     let size : c.unpack-own.result.0.len ≡ length c.unpack-own.result.0.items = search rules in
-    let back : c.carry_out.new.own ≡ c.unpack-own.result.0.items =
-    c.in_default-carry_out.ensures.err ∙ c.deref_mut.ensures.value in
-    let values = written_whole c.unpack-own.result.0.items c.carry_out.new.own c.unpack-own.result.0.len size
+    let back : c.apply_at.new.own ≡ c.unpack-own.result.0.items =
+    c.in_default-apply_at.ensures.err ∙ c.deref_mut.ensures.value in
+    let values = written_whole c.unpack-own.result.0.items c.apply_at.new.own c.unpack-own.result.0.len size
     (ap length back) ∙ back ∙ c.unpack-own.ensures.own in
     let names : names_of c.pack-parcels.result.items ≡ names_of c.args.self.parcels.items =
     same_names c.pack-parcels.result.items c.args.self.parcels.items (c.pack-parcels.ensures.values ∙ values)

@@ -1,6 +1,6 @@
 use Rattle.std.proofs.Common.{sym, subst, Option, ◌∷◌, ◌++◌, ◌∙◌, ap}
 use Rattle.reg_cuts.specs.Parts.{text_of_parts}
-use Rattle.reg_text.specs.declared.reading.parts.Part.{Part}
+use Rattle.reg_text.specs.declared.reading.part.Part.{Part}
 use Rattle.reg_text.proofs.Names.{draft_of, read_behind}
 use Rattle.reg_text.specs.PartsRead.{ReadsEach}
 use Rattle.reg_text.proofs.PartFacts.{part-joined, all-joined, so-far-fits}
