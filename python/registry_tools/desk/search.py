@@ -76,15 +76,21 @@ def whats_of(reading: Reading, word: str) -> Iterator[Markup]:
 
 def log_rows_named(reading: Reading, word: str) -> Sequence[LogCells]:
     """The log rows of a record, or of an amount, or those that a check refused."""
-    codes = ", ".join(str(check.code) for check in checks_named(word))
-    number = number_of(word)
+    codes, number = ", ".join(str(check.code) for check in checks_named(word)), number_of(word)
     if number is None and not codes:
         return []
-    parts = [OF_NUMBER] if number is not None else []
-    parts += [f"SELECT record FROM log WHERE code IN ({codes})"] if codes else []
-    where, values = [f"i.record IN ({' UNION '.join(parts)})"], {"amount": number}
+    # (all instructions are gone through once: what is counted, and what is shown, names records alone)
+    meant = reading.of_days(lambda days: records_meant(days, codes, number))
+    where = [f"i.record IN ({meant})"]
 
     def read(days: Days, places: range | None = None) -> list[LogRow]:
-        return [*logged(days, where, values, places)]
+        return [*logged(days, where, {}, places)]
 
-    return questions.rows_of_log(reading, ("searched", word), lambda days: count_logged(days, where, values), read)
+    return questions.rows_of_log(reading, ("searched", word), lambda days: count_logged(days, where, {}), read)
+
+
+def records_meant(days: Days, codes: str, number: int | None) -> str:
+    """For a condition, the records that a number names, or those that these checks refused."""
+    if number is None:
+        return f"SELECT record FROM log WHERE code IN ({codes})"
+    return ", ".join(str(record) for (record,) in days.database.execute(OF_NUMBER, {"amount": number}))

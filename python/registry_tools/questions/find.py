@@ -46,12 +46,13 @@ def asked_in_sql(asked: Find) -> tuple[list[str], dict[str, object]]:
         NAMING: asked.account is not None, HOLDER_HAS: asked.holder is not None, OF_USER: asked.user is not None,
         "i.act = :act": asked.act is not None, "NOT log.is_done": asked.is_refused,
         "log.name IS NOT :waiting": asked.has_no_waiting,
+        SPAN[0]: asked.begin != datetime.date.min, SPAN[1]: asked.end != datetime.date.max,
     }  # fmt: skip
     values: dict[str, object] = {
         "account": asked.account, "holder": asked.holder, "user": asked.user, "act": asked.act, "waiting": NOT_DUE,
         "begin": str(asked.begin), "end": str(asked.end),
     }  # fmt: skip
-    return [*(condition for condition, is_asked in where.items() if is_asked), *SPAN], values
+    return [condition for condition, is_asked in where.items() if is_asked], values
 
 
 def accounts_meant(days: Days, asked: Find) -> set[int]:
