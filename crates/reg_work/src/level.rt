@@ -8,7 +8,7 @@ ghost use Rattle.reg_facts.specs.Lists.{joined_lists};
 ghost use Rattle.reg_work.specs.Parts.{AreEven};
 ghost use Rattle.reg_work.specs.Shortages.{IsShortage};
 
-use crate::dividing::divide;
+use crate::division::divide;
 use crate::fault::Shortage;
 use reg_base::NoMemory;
 use reg_tasks::{Context, Gate, Naming, Task, TaskOutcome};

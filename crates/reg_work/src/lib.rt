@@ -40,7 +40,7 @@
 #![tactic(auto)]
 
 mod alone;
-mod dividing;
+mod division;
 mod execution;
 mod fault;
 mod level;

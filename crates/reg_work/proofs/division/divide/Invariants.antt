@@ -1,6 +1,6 @@
 use Rattle.std.proofs.Common.{◌≡◌, ◌≤◌, ◌<◌, ◌+◌, ◌-◌, ◌*◌, ◌++◌, All, map, length, vec_len}
 use Rattle.reg_facts.specs.Lists.{joined_lists}
-use Rattle.reg_work.proofs.dividing.divide.Given as goal
+use Rattle.reg_work.proofs.division.divide.Given as goal
 
 -- the parts that were made, and the rest, are the whole
 abbrev pub invariant-loop-index : goal.invariant-loop-index

@@ -1,6 +1,6 @@
 use Rattle.std.proofs.Common.{rules, ◌/◌, ◌%◌}
 use Rattle.reg_work.proofs.Dividing.{left_after, one_more, even_more}
-use Rattle.reg_work.proofs.dividing.divide.Goals as goal
+use Rattle.reg_work.proofs.division.divide.Goals as goal
 
 pub loop-index-preserved : goal.loop-index-preserved
 loop-index-preserved g c = let i = c.loop-index.invariant in record {
