@@ -154,6 +154,22 @@ def test_fault_has_its_code_and_changes_nothing(
     assert content_of(folder.path) == before and not folder.store.db.in_transaction
 
 
+def test_a_fault_behind_a_late_one_is_its_own(folder: office.Office) -> None:
+    with pytest.raises(office.LateFault):
+        too_late(folder)()
+    with pytest.raises(office.RowFault) as raised:
+        no_row(folder)()
+    assert (raised.value.code, raised.value.line, raised.value.found) == ("row", 1, "'x'")
+
+
+def test_a_day_that_is_not_settled_is_told(folder: office.Office) -> None:
+    closed(folder)
+    with office.days_of(folder) as days:
+        assert days.day(DATE).date == DATE
+        with pytest.raises(office.WordsFault, match="2025-04-01 is not settled here"):
+            days.day(datetime.date(2025, 4, 1))
+
+
 def test_fault_has_its_way_out_apart(folder: office.Office) -> None:
     with pytest.raises(office.WordsFault) as raised:
         office.close(folder, office.caller(folder, "ana"), office.Close(None))

@@ -9,7 +9,7 @@
 
 They print nothing (what a program that settles says beside its report goes to standard error), and end nothing:
 whatever is wrong raises a `Fault`, and then nothing was changed. Its `code` says which kind of fault it is
-(docs/OFFICE.md lists them), `parts()` what more there is, and its text what is done about it, in the words of the
+(docs/OFFICE.md lists them), `parts()` what more there is, and `way` what is done about it, in the words of the
 commands. A function may also raise OSError and sqlite3.Error, if the disk or the file fails. A folder is used by the
 thread that opened it. A change is one step: an interrupt before it leaves all as it was.
 
@@ -58,6 +58,7 @@ from registry_tools.second.days import Instruction
 from registry_tools.store import copies
 from registry_tools.store.copies import Copy
 from registry_tools.store.events import Event
+from registry_tools.store.past import PastDay
 from registry_tools.tables import VERSION as __version__
 from registry_tools.texts.books import Sums
 from registry_tools.texts.day_text import DayText
@@ -68,7 +69,7 @@ __all__ = [
     "Added", "Anchor", "AskedFor", "Audit", "By", "Change", "Changed", "Close", "Closed", "Copy", "Correct",
     "Corrected", "DayText", "Days", "Doubts", "Due", "Edit", "EditFault", "Event", "Fault", "FileFault", "Find",
     "Forms", "Found", "Given", "HadFault", "HandIn", "Init", "Instruction", "Item", "Label", "LateFault", "LinkFault",
-    "LogRow", "Looked", "Named", "NextDay", "Office", "Outcome", "Part", "Release", "Released", "Report",
+    "LogRow", "Looked", "Named", "NextDay", "Office", "Outcome", "Part", "PastDay", "Release", "Released", "Report",
     "RightsFault", "RowFault", "Settled", "Shown", "Status", "Sums", "TableFault", "TakeBack", "Tried", "Undo",
     "Undone", "Unproved", "UnwrittenFault", "WordsFault", "__version__", "anchor_of", "approve_command",
     "approve_places", "audit", "backup", "balance", "caller", "change_by_hand", "close", "correct", "days_of",

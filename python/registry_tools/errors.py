@@ -15,14 +15,16 @@ MOST_SHOWN = 160
 
 
 class Fault(Exception):
-    """Why nothing was done: a sentence, as a text."""
+    """Why nothing was done: a sentence, as a text.
 
-    # The exit status; the word by which programs know what kind of fault it is; and what is done about such a one.
+    `code` is the word by which programs know what kind of fault it is, `status` the exit status of a command that ends
+    so, `remedy` what is done about such a one, and `way` what is done about this one, in the words of the commands, or
+    nothing. `behind` is the day behind a corrected one that can't be closed so, if it is a fault of that day."""
+
     status = WORDS
     code = remedy = ""
-    # What is done about this one, if that is known; behind the sentence stands the `joint`, and then the way.
+    # (behind the sentence stands the `joint`, and then the way)
     way, joint = "", "; "
-    # The day behind a corrected one that can't be closed so, if it is a fault of that day.
     behind: datetime.date | None = None
 
     def parts(self) -> "Sequence[Fault]":
@@ -66,12 +68,12 @@ class RightsFault(WordsFault):
 
 
 class FileFault(Fault):
-    """A file is not what it must be: `path`, `line`, `field`, what was `found` there, and what was `expected`. If the
-    whole file is meant, `found` says all."""
+    """A file is not what it must be: `path`, which also names the cell of a table, `line`, `field`, what was `found`
+    there, and what was `expected`. If the whole file is meant, `found` says all. `place` is that of something that was
+    handed in before, if it is a fault of that."""
 
     status = FILE
     code, remedy = "file", "put there what is expected"
-    # Of something that was handed in, its place.
     place: int | None = None
 
     def __init__(

@@ -82,8 +82,8 @@ class Doubts:
 
 
 def close(office: Office, by: By, asked: Close) -> Closed | Doubts | AskedFor:
-    """Settles and files the next day. Raises WordsFault if it is another one than the named one, and FileFault if
-    something that was handed in can't be in it, or if the report is not what the rules make of it."""
+    """Settles and files a day behind the last one; if office.ini names no program, `./run` may build one first. Raises
+    WordsFault if it is no such day, FileFault if something can't be in it or settle it, or the report is wrong."""
     with office.changing("close", by):
         handed_in = approvals.handed_in_of(office)
         if asked.date is None:

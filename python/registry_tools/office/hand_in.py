@@ -17,8 +17,8 @@ from registry_tools.store.texts import sum_of
 
 @dataclass(frozen=True)
 class HandIn:
-    """What is handed in: files, how tables of them are written, and what is meant once more, by FILE:LINE or by the
-    PLACE of what was handed in."""
+    """What is handed in: files, how tables of them are written, and which of their rows are meant once more, by
+    FILE:LINE or by the PLACE of what was handed in."""
 
     files: tuple[Given, ...]
     again: tuple[str, ...] = ()

@@ -19,7 +19,7 @@ from registry_tools.texts.rows import bytes_of, rows_of_text, text_of_rows
 
 @dataclass(frozen=True)
 class Init:
-    """A folder that is made: its first text, and what office.ini says."""
+    """A folder to make: its path, that of its first text, and what office.ini says; no `program` is that of ./run."""
 
     path: Path
     first: str

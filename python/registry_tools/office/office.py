@@ -116,7 +116,7 @@ class Office:
         """Ends the command if this login may not give it now; what it does from here on is its own."""
         if bounds.is_look:
             raise RightsFault("this desk shows all, and changes nothing")
-        self.login, self.who = by.login, by.who
+        self.login, self.who, self.late = by.login, by.who, CAME_LATE
         people.must_be_allowed(self.people, self.login, command)
         if by.seen is not None and by.seen != self.state():
             self.late = f"{CAME_LATE}: {'; '.join(self.done_since(by.seen))}"

@@ -9,8 +9,8 @@ from registry_tools.showing import Cell
 
 
 def balance(days: Days, account: int, on: datetime.date | None = None) -> list[list[Cell]]:
-    """A row for each kind of allowance, after the last day up to a date. Raises WordsFault if there is no such day or
-    account."""
+    """A row for each kind of allowance, after the last day up to a date: the day, account, kind, and what it holds, has
+    surrendered and has deleted. Raises WordsFault if there is no such day or account."""
     date = days.last_until(on or datetime.date.max)
     if date is None:
         raise WordsFault("no day is settled yet" if on is None else f"no day was settled up to {on}")

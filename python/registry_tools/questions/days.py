@@ -68,9 +68,11 @@ class Days:
         return max((settled for settled in self.pairs if settled <= date), default=None)
 
     def day(self, date: datetime.date) -> "PastDay":
-        """A day with its report, and without the day before it."""
+        """A day with its report, and without the day before it. Raises WordsFault if it is not settled here."""
         from registry_tools.store import past
 
+        if date not in self.pairs:
+            raise WordsFault(f"{date} is not settled here")
         if date not in self.read:
             self.read = {date: past.PastDay(*past.read(self.pairs[date]), None, [])}
         return self.read[date]
