@@ -83,7 +83,9 @@ def edits_asked(asked: list[tuple[str, str]]) -> list[Edit]:
     """The differences that words of the command ask for. A fault of one is told by the label of its field."""
     parser, made = TellingWords(), list[Edit]()
     words_of_change.add_words(parser)
-    for count, (label_of, _) in enumerate(asked, 1):
+    for count, (label_of, word) in enumerate(asked, 1):
+        if label_of and word.partition("=")[1:] == ("=", ""):
+            raise WordsFault(f"{label_of}: it is empty")
         try:
             # (an account alone asks for nothing)
             if label_of:
