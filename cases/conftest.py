@@ -97,7 +97,7 @@ def pytest_collection_modifyitems(config: pytest.Config, items: list[pytest.Item
     again = config.getoption("lf", False)
     for item in items:
         if isinstance(item, Script):
-            item.wanted = wanted_of(item, again)
+            item.wanted, item.words = wanted_of(item, again), getattr(config.option, WORDS)
             known = trials.trials_of(item.path)
             item.add_marker("slow") if known.is_slow else None
             item.add_marker("office") if known.is_of_office else None

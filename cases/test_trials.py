@@ -105,6 +105,12 @@ def test_words_choose_trials(name: str) -> None:
     assert ran(name, made(), "-k", "not close and not one")[1] == ["two PASSED"]
 
 
+def test_words_of_no_name_are_skipped(name: str) -> None:
+    """A script is chosen by its text, in which words may stand that no trial has."""
+    said, told = ran(name, made(), "-k", "before")
+    assert told == ["* SKIPPED"] and "no name of its trials" in said
+
+
 def test_words_choose_trials_of_a_module(name: str) -> None:
     """A script may have its trials in modules beside it: their names are known before they are made, too."""
     module = CASES / f"{name.replace('-', '_')}_parts.py"
